@@ -1,0 +1,1 @@
+// Bytes in place: what every other crate reads and writes bytes through.
