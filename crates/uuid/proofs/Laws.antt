@@ -1,5 +1,5 @@
 -- What each return of the code asks, over plain variables.
-use Prim.Native.Nat.{ℕ, suc, _+_, _-_, _*_, _/_, _%_, _^_, _≤_, _<_}
+use Prim.Native.Nat.{ℕ, suc, _+_, _-_, _/_, _%_, _^_, _≤_, _<_}
 use mathlib.Core.Path.{_≡_, refl, ap, sym, _∙_}
 use mathlib.Core.Bool.{Bool, true, false}
 use mathlib.Core.List.{List, _∷_, _++_}
@@ -11,7 +11,7 @@ use lib.Dec.{eqb}
 use borrow.Author.Tests.{eq-eqb, ne-eqb, eqb-true, eqb-false}
 use Rattle.base.specs.Bytes.{le, leBytes, leAt}
 use Rattle.base.proofs.ByteLaws.{leAt-in, leAt-off, leAt-split, leBytes-split}
-use Rattle.uuid.specs.Value.{baseUuid, num, ofNum, short, shortOf, Short, attUuid, attBytes, attOf}
+use Rattle.uuid.specs.Value.{num, ofNum, short, shortOf, Short, attUuid, attBytes, attOf}
 use Rattle.uuid.specs.Laws.{halves, length-leBytes, att-short, att-long}
 use Rattle.uuid.specs.declared.Uuid.{Uuid}
 use Rattle.uuid.specs.declared.Read.the-variants.{Is, Nothing}

@@ -1,5 +1,5 @@
 -- What follows from the definitions, for the theorems and the proofs of the code.
-use Prim.Native.Nat.{ℕ, zero, suc, _+_, _*_, _/_, _%_, _^_, _≤_, _<_}
+use Prim.Native.Nat.{ℕ, zero, suc, _+_, _*_, _/_, _%_, _^_, _<_}
 use mathlib.Core.Path.{_≡_, refl, ap, sym, _∙_}
 use mathlib.Core.Bool.{Bool, true, false, false≢true, and-eq-true-iff}
 use mathlib.Core.Logic.{_⊎_, inl, inr}
@@ -10,7 +10,6 @@ use lib.ListN.{length, getD}
 use lib.Dec.{eqb, ltb}
 use lib.Pow.{low, high, split}
 use borrow.Author.Tests.{eqb-true, lt-ltb, ltb-true}
-use Rattle.base.specs.Choice.{pick}
 use Rattle.base.specs.Bytes.{le, leBytes}
 use Rattle.uuid.specs.Value.{baseUuid, num, ofNum, short, isShort, Short, attBytes}
 use Rattle.uuid.specs.declared.Uuid.{Uuid}

@@ -1,7 +1,7 @@
 -- What the two directions between a UUID and its bytes promise together, of every UUID and of all bytes. The code is held to
 -- `attBytes` and `attUuid` by the contracts of `to_att` and `from_att`.
 use Prim.Native.Nat.{ℕ, _^_, _<_}
-use mathlib.Core.Path.{_≡_, ap, sym, _∙_}
+use mathlib.Core.Path.{_≡_, ap, _∙_}
 use mathlib.Core.List.{List}
 use mathlib.Core.Logic.{⊎-elim}
 use native.Mathlib.Omega.{arith}

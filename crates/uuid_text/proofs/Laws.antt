@@ -1,7 +1,7 @@
 -- What each return of the code asks, over plain variables.
-use Prim.Native.Nat.{ℕ, zero, suc, _+_, _-_, _*_, _/_, _%_, _^_, _≤_, _<_}
+use Prim.Native.Nat.{ℕ, suc, _+_, _-_, _*_, _/_, _%_, _^_, _≤_, _<_}
 use mathlib.Core.Path.{_≡_, refl, ap, sym, _∙_}
-use mathlib.Core.Bool.{Bool, true, false, false≢true, and-false, and-eq-true-iff}
+use mathlib.Core.Bool.{Bool, true, false, and-false, and-eq-true-iff}
 use mathlib.Core.Logic.{_⊎_, inl, inr}
 use mathlib.Core.List.{List, [], _∷_, _++_, append-nil}
 use native.Mathlib.Omega.{arith}
@@ -12,7 +12,7 @@ use lib.Seq.{drop-cons, take-all, take-suc-set, append-snoc, length-take-le, sli
 use lib.Dec.{leb, ltb, eqb}
 use borrow.Author.Tests.{lt-ltb, le-ltb, ltb-true, leb-true, leb-false, le-leb, lt-leb, eq-eqb, ne-eqb}
 use Rattle.base.specs.Choice.{pick, within}
-use Rattle.uuid.specs.Value.{shortOf, ofNum}
+use Rattle.uuid.specs.Value.{shortOf}
 use Rattle.uuid.specs.Laws.{halves}
 use Rattle.uuid.specs.declared.Uuid.{Uuid}
 use Rattle.uuid.specs.declared.Read.the-variants.{Is, Nothing}

@@ -1,11 +1,10 @@
 use Prim.Native.Nat.{_+_, _-_, _≤_}
-use mathlib.Core.Path.{_≡_, refl, ap, sym, _∙_}
+use mathlib.Core.Path.{_≡_, ap, _∙_}
 use native.Mathlib.Omega.{arith}
 use borrow.Author.Needs.{needs}
 use lib.ListN.{length, drop}
-use lib.Seq.{paste, paste-zero, length-paste}
+use lib.Seq.{paste, paste-zero}
 use Rattle.base.specs.Bytes.{leBytes}
-use Rattle.uuid.specs.Laws.{length-leBytes}
 use Rattle.uuid.proofs.Laws.{started, after, stored}
 use Rattle.uuid.proofs.with_le.Statement.{statement}
 use Rattle.uuid.proofs.with_le.Tie as tie

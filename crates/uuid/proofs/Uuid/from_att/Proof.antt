@@ -1,4 +1,3 @@
-use native.Mathlib.Omega.{arith}
 use denote.Ref.{now}
 use Rattle.uuid.proofs.Laws.{read-two, read-sixteen, read-none}
 use borrow.Author.Needs.{needs}
