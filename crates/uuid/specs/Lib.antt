@@ -1,0 +1,3 @@
+pub mod Value
+pub mod Laws
+pub mod Theorems
