@@ -1,0 +1,105 @@
+-- What a search from a place on finds.
+use Prim.Native.Nat.{ℕ, _+_, _-_, _≤_, _<_}
+use mathlib.Core.Path.{_≡_, refl, sym, _∙_}
+use mathlib.Core.Bool.{Bool, true, false, _&&_, _||_, and-false}
+use mathlib.Core.List.{List, [], _∷_}
+use native.Mathlib.Omega.{arith}
+use lib.ListN.{length, take, drop, getD}
+use lib.Dec.{ltb}
+use borrow.Author.Tests.{lt-ltb, le-ltb}
+use Rattle.base.specs.Choice.{pick}
+use Rattle.advertising.specs.Ad.{Ad, structures, widthOf, uuids, among, lists, anyLists, Found, One, None, listing, placeOf, listedPlace}
+use Rattle.advertising.specs.declared.Place.{Place}
+use Rattle.advertising.specs.declared.Place.the-variants.{Body, Nothing}
+use Rattle.advertising.proofs.Lists.{part}
+use Rattle.advertising.proofs.Structures.{readAt, read-zero, read-past, read-here, body-length, Lies, AllLie, all-lie}
+
+-- what a search from at finds
+abbrev pub from : ℕ → ℕ → List ℕ → Place
+from u at s = placeOf (listing u (readAt at s))
+
+placed : (t : Bool) (a : Ad) (f : Found) → placeOf (pick t (One a) f) ≡ pick t (Body (a .start) (length (a .body))) (placeOf f)
+placed true a f = refl
+placed false a f = refl
+
+module _ (u at : ℕ) (s : List ℕ) where
+  pub stop-zero : getD s at 0 ≡ 0 → from u at s ≡ Nothing
+  unfolding listing
+  stop-zero h = rw (read-zero at s h)
+
+  pub stop-past : length s - at ≤ getD s at 0 → from u at s ≡ Nothing
+  unfolding listing
+  stop-past h = rw (read-past at s h)
+
+  module _ (n : ℕ) (is : n ≡ getD s at 0) (some : 0 < n) (fits : n < length s - at) where
+    here : from u at s
+        ≡ pick (ltb 0 (widthOf (getD s (at + 1) 0)) && among u (uuids (widthOf (getD s (at + 1) 0)) (part s (at + 2) (at + 1 + n)))) (Body (at + 2) (n - 1)) (from u (at + 1 + n) s)
+    unfolding listing
+    here = rw (read-here at s n is some fits, placed, body-length at s n is some fits)
+
+    -- a structure that lists u
+    pub hit : (w : ℕ) → w ≡ widthOf (getD s (at + 1) 0) → 0 < w → among u (uuids w (part s (at + 2) (at + 1 + n))) ≡ true → from u at s ≡ Body (at + 2) (n - 1)
+    hit w e p h = here ∙ rw (← e, lt-ltb 0 w p, h)
+
+    -- one that does not
+    pub miss : (w : ℕ) → w ≡ widthOf (getD s (at + 1) 0) → among u (uuids w (part s (at + 2) (at + 1 + n))) ≡ false → from u at s ≡ from u (at + 1 + n) s
+    miss w e h = here ∙ rw (← e, h, and-false (ltb 0 w))
+
+    -- one that lists nothing
+    pub other : (w : ℕ) → w ≡ widthOf (getD s (at + 1) 0) → w ≤ 0 → from u at s ≡ from u (at + 1 + n) s
+    other w e p = here ∙ rw (← e, le-ltb 0 w p)
+
+-- ---- what the answer says
+
+-- some structure lists u where the search finds one
+abbrev pub isBody : Place → Bool
+isBody (Body b n) = true
+isBody Nothing = false
+
+any-by : (t : Bool) (a : Ad) (f : Found) (x : Bool) → x ≡ isBody (placeOf f) → (t || x) ≡ isBody (placeOf (pick t (One a) f))
+any-by true a f x h = refl
+any-by false a f x h = h
+
+pub any-found : (u : ℕ) (l : List Ad) → anyLists u l ≡ isBody (placeOf (listing u l))
+unfolding anyLists listing
+any-found u [] = refl
+any-found u (a ∷ l) = any-by (lists u a) a (listing u l) (anyLists u l) (any-found u l)
+
+-- the structure found lies in the data
+abbrev FoundLies : List ℕ → Found → Type 0
+FoundLies s (One a) = Lies s a
+FoundLies s None = Unit
+
+lies-by : (s : List ℕ) (t : Bool) (a : Ad) (f : Found) → Lies s a → FoundLies s f → FoundLies s (pick t (One a) f)
+lies-by s true a f h k = h
+lies-by s false a f h k = k
+
+lies : (u : ℕ) (s : List ℕ) (l : List Ad) → AllLie s l → FoundLies s (listing u l)
+unfolding listing
+lies u s [] h = tt
+lies u s (a ∷ l) h = lies-by s (lists u a) a (listing u l) (h .0) (lies u s l (h .1))
+
+-- a place that the search gives is that of a structure's body, which stands there
+pub record At (s : List ℕ) (b n : ℕ) (f : Found) : Type 0 where
+  pub ad : Ad
+  pub is : f ≡ One ad
+  pub begins : ad .start ≡ b
+  pub inside : b + n ≤ length s
+  pub bytes : ad .body ≡ take n (drop b s)
+
+at-by : (s : List ℕ) (b n : ℕ) (f : Found) → FoundLies s f → Body b n ≡ placeOf f → At s b n f
+at-by s b n (One a) h e =
+    let p : a .start ≡ b = cc in
+    let q : length (a .body) ≡ n = cc in
+    record { ad = a; is = refl; begins = p; inside = rw (p, q) at (h .inside); bytes = rw (p, q) at (h .bytes) }
+at-by s b n None h e = let z : _≡_ {A = ℕ} 0 1 = cc in absurd (omega arith)
+
+pub found-at : (u : ℕ) (s : List ℕ) (b n : ℕ) → Body b n ≡ listedPlace u s → At s b n (listing u (structures s))
+found-at u s b n e = at-by s b n (listing u (structures s)) (lies u s (structures s) (all-lie s)) e
+
+none-by : (f : Found) → Nothing ≡ placeOf f → f ≡ None
+none-by (One a) e = let z : _≡_ {A = ℕ} 0 1 = cc in absurd (omega arith)
+none-by None e = refl
+
+pub found-none : (u : ℕ) (s : List ℕ) → Nothing ≡ listedPlace u s → listing u (structures s) ≡ None
+found-none u s e = none-by (listing u (structures s)) e
