@@ -66,11 +66,11 @@ any-found u [] = refl
 any-found u (a ∷ l) = any-by (lists u a) a (listing u l) (anyLists u l) (any-found u l)
 
 -- the structure found lies in the data
-abbrev FoundLies : List ℕ → Found → Type 0
+abbrev pub FoundLies : List ℕ → Found → Type 0
 FoundLies s (One a) = Lies s a
 FoundLies s None = Unit
 
-lies-by : (s : List ℕ) (t : Bool) (a : Ad) (f : Found) → Lies s a → FoundLies s f → FoundLies s (pick t (One a) f)
+pub lies-by : (s : List ℕ) (t : Bool) (a : Ad) (f : Found) → Lies s a → FoundLies s f → FoundLies s (pick t (One a) f)
 lies-by s true a f h k = h
 lies-by s false a f h k = k
 
@@ -87,7 +87,7 @@ pub record At (s : List ℕ) (b n : ℕ) (f : Found) : Type 0 where
   pub inside : b + n ≤ length s
   pub bytes : ad .body ≡ take n (drop b s)
 
-at-by : (s : List ℕ) (b n : ℕ) (f : Found) → FoundLies s f → Body b n ≡ placeOf f → At s b n f
+pub at-by : (s : List ℕ) (b n : ℕ) (f : Found) → FoundLies s f → Body b n ≡ placeOf f → At s b n f
 at-by s b n (One a) h e =
     let p : a .start ≡ b = cc in
     let q : length (a .body) ≡ n = cc in
