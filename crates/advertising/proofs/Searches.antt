@@ -5,13 +5,13 @@ use mathlib.Core.Bool.{Bool, true, false, _&&_, _||_, and-false}
 use mathlib.Core.List.{List, [], _∷_}
 use native.Mathlib.Omega.{arith}
 use lib.ListN.{length, take, drop, getD}
-use lib.Dec.{ltb}
+use lib.Dec.{eqb, ltb}
 use borrow.Author.Tests.{lt-ltb, le-ltb}
 use Rattle.base.specs.Choice.{pick}
-use Rattle.advertising.specs.Ad.{Ad, structures, widthOf, uuids, among, lists, anyLists, Found, One, None, listing, placeOf, listedPlace}
+use Rattle.advertising.specs.Ad.{Ad, structures, widthOf, uuidOf, uuids, among, lists, anyLists, Found, One, None, listing, placeOf, listedPlace}
 use Rattle.advertising.specs.declared.Place.{Place}
 use Rattle.advertising.specs.declared.Place.the-variants.{Body, Nothing}
-use Rattle.advertising.proofs.Lists.{part}
+use Rattle.advertising.proofs.Lists.{part, among-here, among-later, among-stop}
 use Rattle.advertising.proofs.Structures.{readAt, read-zero, read-past, read-here, body-length, Lies, AllLie, all-lie}
 
 -- what a search from at finds
@@ -31,23 +31,40 @@ module _ (u at : ℕ) (s : List ℕ) where
   unfolding listing
   stop-past h = rw (read-past at s h)
 
-  module _ (n : ℕ) (is : n ≡ getD s at 0) (some : 0 < n) (fits : n < length s - at) where
-    here : from u at s
-        ≡ pick (ltb 0 (widthOf (getD s (at + 1) 0)) && among u (uuids (widthOf (getD s (at + 1) 0)) (part s (at + 2) (at + 1 + n)))) (Body (at + 2) (n - 1)) (from u (at + 1 + n) s)
-    unfolding listing
-    here = rw (read-here at s n is some fits, placed, body-length at s n is some fits)
+-- whether the UUIDs of w bytes from i up to e have u among them
+abbrev pub rest : ℕ → List ℕ → ℕ → ℕ → ℕ → Bool
+rest u s w i e = among u (uuids w (part s i e))
 
-    -- a structure that lists u
-    pub hit : (w : ℕ) → w ≡ widthOf (getD s (at + 1) 0) → 0 < w → among u (uuids w (part s (at + 2) (at + 1 + n))) ≡ true → from u at s ≡ Body (at + 2) (n - 1)
-    hit w e p h = here ∙ rw (← e, lt-ltb 0 w p, h)
+-- a structure of length n stands at at, and w is the width of its kind
+module _ (u at : ℕ) (s : List ℕ) (n : ℕ) (is : n ≡ getD s at 0) (not-zero : n ≡ 0 → ⊥) (fits : n < length s - at) (w : ℕ) (is-w : w ≡ widthOf (getD s (at + 1) 0)) where
+  abbrev next : ℕ
+  next = at + 1 + n
 
-    -- one that does not
-    pub miss : (w : ℕ) → w ≡ widthOf (getD s (at + 1) 0) → among u (uuids w (part s (at + 2) (at + 1 + n))) ≡ false → from u at s ≡ from u (at + 1 + n) s
-    miss w e h = here ∙ rw (← e, h, and-false (ltb 0 w))
+  here : from u at s ≡ pick (ltb 0 w && rest u s w (at + 2) next) (Body (at + 2) (n - 1)) (from u next s)
+  unfolding listing
+  here =
+      let some : 0 < n = omega arith in
+      rw (is-w, read-here at s n is some fits, placed, body-length at s n is some fits)
 
-    -- one that lists nothing
-    pub other : (w : ℕ) → w ≡ widthOf (getD s (at + 1) 0) → w ≤ 0 → from u at s ≡ from u (at + 1 + n) s
-    other w e p = here ∙ rw (← e, le-ltb 0 w p)
+  -- it lists nothing
+  pub list-none : w ≤ 0 → (next ≤ length s) × (from u at s ≡ from u next s)
+  list-none h = (omega arith, here ∙ rw (le-ltb 0 w h))
+
+  -- its list has come to an end without u
+  pub list-done : (i : ℕ) → next - i < w → rest u s w i next ≡ rest u s w (at + 2) next → (next ≤ length s) × (from u at s ≡ from u next s)
+  list-done i h e =
+      let z : rest u s w (at + 2) next ≡ false = sym e ∙ among-stop s i next (omega arith) u w h in
+      (omega arith, here ∙ rw (z, and-false (ltb 0 w)))
+
+  -- r is whether the UUID at i is u
+  module _ (i : ℕ) (r : Bool) (some : 0 < w) (low : i ≤ next) (room : w ≤ next - i) (is-r : r ≡ eqb (uuidOf w (take w (drop i s))) u) where
+    pub list-later : r ≡ false → (i + w ≤ next) × (rest u s w i next ≡ rest u s w (i + w) next)
+    list-later h = (omega arith, among-later s i next (omega arith) u w r some (omega arith) is-r h)
+
+    pub list-here : r ≡ true → rest u s w i next ≡ rest u s w (at + 2) next → from u at s ≡ Body (at + 2) (n - 1)
+    list-here h e =
+        let z : rest u s w (at + 2) next ≡ true = sym e ∙ among-here s i next (omega arith) u w r some (omega arith) is-r h in
+        here ∙ rw (lt-ltb 0 w some, z)
 
 -- ---- what the answer says
 

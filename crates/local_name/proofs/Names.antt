@@ -19,30 +19,36 @@ use Rattle.local_name.specs.Name.{naming, nameOf, localName}
 abbrev pub nameFrom : ℕ → List ℕ → Place
 nameFrom at s = nameOf (naming (readAt at s))
 
-named : (t : Bool) (a : Ad) (f : Found) → nameOf (pick t (One a) f) ≡ pick t (pick (utf8 (a .body)) (Body (a .start) (length (a .body))) Nothing) (nameOf f)
-named true a f = refl
-named false a f = refl
+name-by : (t : Bool) (a : Ad) (f : Found) → nameOf (pick t (One a) f) ≡ pick t (pick (utf8 (a .body)) (Body (a .start) (length (a .body))) Nothing) (nameOf f)
+name-by true a f = refl
+name-by false a f = refl
 
 -- no structure from at on
 pub name-none : (at : ℕ) (s : List ℕ) → readAt at s ≡ [] → nameFrom at s ≡ Nothing
 unfolding naming
 name-none at s h = rw h
 
-module _ (at : ℕ) (s : List ℕ) (n : ℕ) (is : n ≡ getD s at 0) (some : 0 < n) (fits : n < length s - at) where
-  name-here : nameFrom at s
-      ≡ pick (within 0x08 0x09 (getD s (at + 1) 0)) (pick (utf8 (part s (at + 2) (at + 1 + n))) (Body (at + 2) (n - 1)) Nothing) (nameFrom (at + 1 + n) s)
+-- a structure of length n stands at at, and t is whether its kind is that of a name
+module _ (at : ℕ) (s : List ℕ) (n : ℕ) (is : n ≡ getD s at 0) (not-zero : n ≡ 0 → ⊥) (fits : n < length s - at) (t : Bool) (is-t : t ≡ within 0x08 0x09 (getD s (at + 1) 0)) where
+  abbrev next : ℕ
+  next = at + 1 + n
+
+  name-here : nameFrom at s ≡ pick t (pick (utf8 (part s (at + 2) next)) (Body (at + 2) (n - 1)) Nothing) (nameFrom next s)
   unfolding naming
-  name-here = rw (read-here at s n is some fits, named, body-length at s n is some fits)
+  name-here =
+      let some : 0 < n = omega arith in
+      rw (is-t, read-here at s n is some fits, name-by, body-length at s n is some fits)
 
-  pub name-later : within 0x08 0x09 (getD s (at + 1) 0) ≡ false → nameFrom at s ≡ nameFrom (at + 1 + n) s
-  name-later h = name-here ∙ rw h
+  pub name-later : t ≡ false → (next ≤ length s) × (nameFrom at s ≡ nameFrom next s)
+  name-later h = (omega arith, name-here ∙ rw h)
 
-  -- u is whether the body is UTF-8
-  pub name-good : (u : Bool) → within 0x08 0x09 (getD s (at + 1) 0) ≡ true → u ≡ utf8 (part s (at + 2) (at + 1 + n)) → u ≡ true → nameFrom at s ≡ Body (at + 2) (n - 1)
-  name-good u h k t = name-here ∙ rw (h, ← k, t)
+  -- u is whether its body is UTF-8
+  module _ (named : t ≡ true) (u : Bool) (is-u : u ≡ utf8 (part s (at + 2) next)) where
+    pub name-good : u ≡ true → nameFrom at s ≡ Body (at + 2) (n - 1)
+    name-good h = name-here ∙ rw (named, ← is-u, h)
 
-  pub name-bad : (u : Bool) → within 0x08 0x09 (getD s (at + 1) 0) ≡ true → u ≡ utf8 (part s (at + 2) (at + 1 + n)) → u ≡ false → nameFrom at s ≡ Nothing
-  name-bad u h k t = name-here ∙ rw (h, ← k, t)
+    pub name-bad : u ≡ false → nameFrom at s ≡ Nothing
+    name-bad h = name-here ∙ rw (named, ← is-u, h)
 
 -- ---- a name stands in the data
 

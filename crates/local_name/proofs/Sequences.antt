@@ -61,12 +61,25 @@ some-at (row ∷ rows) at s h =
     rw (b, some-at rows at s (q .1))
 
 module _ (s : List ℕ) (at a b c d : ℕ) (is-a : a ≡ getD s at 256) (is-b : b ≡ getD s (at + 1) 256) (is-c : c ≡ getD s (at + 2) 256) (is-d : d ≡ getD s (at + 3) 256) where
+  is-one : some ones (drop at s) ≡ leb a 0x7F
+  is-one = some-at ones at s refl ∙ rw (add-zero, ← is-a, leb·zero, and-true, or-false)
+
+  is-two : some twos (drop at s) ≡ some twos (a ∷ b ∷ [])
+  unfolding some begins
+  is-two = some-at twos at s refl ∙ rw (add-zero, ← is-a, ← is-b)
+
+  is-three : some threes (drop at s) ≡ some threes (a ∷ b ∷ c ∷ [])
+  unfolding some begins
+  is-three = some-at threes at s refl ∙ rw (add-zero, ← is-a, ← is-b, ← is-c)
+
+  is-four : some fours (drop at s) ≡ some fours (a ∷ b ∷ c ∷ d ∷ [])
+  unfolding some begins
+  is-four = some-at fours at s refl ∙ rw (add-zero, ← is-a, ← is-b, ← is-c, ← is-d)
+
   sequence-is : sequence (drop at s)
       ≡ pick (leb a 0x7F) 1 (pick (some twos (a ∷ b ∷ [])) 2 (pick (some threes (a ∷ b ∷ c ∷ [])) 3 (pick (some fours (a ∷ b ∷ c ∷ d ∷ [])) 4 0)))
-  unfolding sequence some begins
-  sequence-is =
-      rw (some-at ones at s refl, some-at twos at s refl, some-at threes at s refl, some-at fours at s refl, is-a, is-b, is-c, is-d)
-      (simp (add-zero, leb·zero, and-true, or-false))
+  unfolding sequence
+  sequence-is = rw (is-one, is-two, is-three, is-four)
 
   pub one-byte : a ≤ 0x7F → 1 ≡ sequence (drop at s)
   one-byte h = sym (sequence-is ∙ rw (le-leb a 0x7F h))

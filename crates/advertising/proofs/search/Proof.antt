@@ -5,10 +5,10 @@ use borrow.Author.Needs.{needs}
 use lib.ListN.{length, getD}
 use denote.Ref.{now}
 use Rattle.uuid.specs.Value.{num}
-use Rattle.advertising.specs.Ad.{listedPlace, among, uuids, widthOf}
+use Rattle.advertising.specs.Ad.{listedPlace, widthOf}
 use Rattle.advertising.specs.declared.Place.the-variants.{Nothing}
-use Rattle.advertising.proofs.Lists.{part, among-here, among-later, among-stop, is-width}
-use Rattle.advertising.proofs.Searches.{from, hit, miss, other, stop-zero, stop-past}
+use Rattle.advertising.proofs.Lists.{is-width}
+use Rattle.advertising.proofs.Searches.{from, rest, stop-zero, stop-past, list-none, list-done, list-later, list-here}
 use Rattle.advertising.proofs.search.Statement.{statement}
 use Rattle.advertising.proofs.search.Tie as tie
 use Rattle.advertising.proofs.search.Reads as reads
@@ -19,7 +19,7 @@ use Rattle.advertising.proofs.width_of.Reads as width-of-reads
 abbrev Inv-loop : tie.InvT-loop
 Inv-loop «data» uuid place₀ at len body next width i₀ place i =
     (i ≤ next)
-    × ((place ≡ Nothing) × (among (num uuid) (uuids width (part «data» i next)) ≡ among (num uuid) (uuids width (part «data» (at + 2) next))))
+    × ((place ≡ Nothing) × (rest (num uuid) «data» width i next ≡ rest (num uuid) «data» width (at + 2) next))
 
 abbrev μ-loop : tie.MeasureT-loop
 μ-loop «data» uuid place₀ at len body next width i₀ place i = next - i
@@ -103,12 +103,13 @@ loop-less c = omega arith
 loop-again : tie.Need-loop-again Inv-loop μ-loop Inv-structures μ-structures
 loop-again c =
     let a = c .before .before .before .before .before .before .before .before .before .before .before .before .before .args in
-    let t = c .before .before .before .before .before .before .before .before .before .before .before .structures in
     let s = now (a .«data») in
-    let w = c .before .before .before .before .before .width-of .result in
+    let t = c .before .before .before .before .before .before .before .before .before .before .before .structures in
+    let w = c .before .before .before .before .before .width-of in
     let l = c .before .before .before .loop in
-    let later = among-later s (l .i) (t .at + 1 + getD s (t .at) 0) (omega arith) (num (a .uuid)) w (c .before .equal-at .result) (omega arith) (omega arith) (c .before .equal-at .ensures) (c .if4 .left) in
-    (omega arith, (l .inv .1 .0, sym later ∙ l .inv .1 .1))
+    let q = c .before .equal-at in
+    let later = list-later (num (a .uuid)) (t .at) s (getD s (t .at) 0) refl (c .before .before .before .before .before .before .before .before .if1 .left) (c .before .before .before .before .before .before .before .if2 .left) (w .result) (w .ensures) (l .i) (q .result) (c .before .before .before .before .if3 .taken) (l .inv .0) (c .before .before .loop-test .taken) (q .ensures) (c .if4 .left) in
+    (later .0, (l .inv .1 .0, sym (later .1) ∙ l .inv .1 .1))
 
 -- src/lib.rt:72:5
 structures-less : tie.Need-structures-less Inv-loop μ-loop Inv-structures μ-structures
@@ -118,14 +119,12 @@ structures-less c = omega arith
 structures-again : tie.Need-structures-again Inv-loop μ-loop Inv-structures μ-structures
 structures-again c =
     let a = c .before .before .before .before .before .before .before .before .before .before .before .args in
-    let t = c .before .before .before .before .before .before .before .before .before .structures in
     let s = now (a .«data») in
-    let u = num (a .uuid) in
-    let n = getD s (t .at) 0 in
+    let t = c .before .before .before .before .before .before .before .before .before .structures in
     let w = c .before .before .before .width-of in
     let l = c .before .loop in
-    let none = sym (l .inv .1 .1) ∙ among-stop s (l .i) (t .at + 1 + n) (omega arith) u (w .result) (omega arith) in
-    (omega arith, (l .inv .1 .0, sym (miss u (t .at) s n refl (omega arith) (omega arith) (w .result) (w .ensures) none) ∙ t .inv .1 .1))
+    let done = list-done (num (a .uuid)) (t .at) s (getD s (t .at) 0) refl (c .before .before .before .before .before .before .if1 .left) (c .before .before .before .before .before .if2 .left) (w .result) (w .ensures) (l .i) (c .loop-test .left) (l .inv .1 .1) in
+    (done .0, (l .inv .1 .0, sym (done .1) ∙ t .inv .1 .1))
 
 -- src/lib.rt:72:5
 structures-less-2 : tie.Need-structures-less-2 Inv-loop μ-loop Inv-structures μ-structures
@@ -135,10 +134,11 @@ structures-less-2 c = omega arith
 structures-again-2 : tie.Need-structures-again-2 Inv-loop μ-loop Inv-structures μ-structures
 structures-again-2 c =
     let a = c .before .before .before .before .before .before .before .before .before .args in
-    let t = c .before .before .before .before .before .before .before .structures in
     let s = now (a .«data») in
+    let t = c .before .before .before .before .before .before .before .structures in
     let w = c .before .width-of in
-    (omega arith, (t .inv .1 .0, sym (other (num (a .uuid)) (t .at) s (getD s (t .at) 0) refl (omega arith) (omega arith) (w .result) (w .ensures) (omega arith)) ∙ t .inv .1 .1))
+    let none = list-none (num (a .uuid)) (t .at) s (getD s (t .at) 0) refl (c .before .before .before .before .if1 .left) (c .before .before .before .if2 .left) (w .result) (w .ensures) (c .if3 .left) in
+    (none .0, (t .inv .1 .0, sym (none .1) ∙ t .inv .1 .1))
 
 -- src/lib.rt:67:1
 returns : tie.Need-returns Inv-loop μ-loop Inv-structures μ-structures
@@ -165,14 +165,12 @@ returns-3 c =
 returns-4 : tie.Need-returns-4 Inv-loop μ-loop Inv-structures μ-structures
 returns-4 c =
     let a = c .before .before .before .before .before .before .before .before .before .before .before .before .before .args in
-    let t = c .before .before .before .before .before .before .before .before .before .before .before .structures in
     let s = now (a .«data») in
-    let u = num (a .uuid) in
-    let n = getD s (t .at) 0 in
+    let t = c .before .before .before .before .before .before .before .before .before .before .before .structures in
     let w = c .before .before .before .before .before .width-of in
     let l = c .before .before .before .loop in
-    let met = sym (l .inv .1 .1) ∙ among-here s (l .i) (t .at + 1 + n) (omega arith) u (w .result) (c .before .equal-at .result) (omega arith) (omega arith) (c .before .equal-at .ensures) (c .if4 .taken) in
-    sym (hit u (t .at) s n refl (omega arith) (omega arith) (w .result) (w .ensures) (omega arith) met) ∙ t .inv .1 .1
+    let q = c .before .equal-at in
+    sym (list-here (num (a .uuid)) (t .at) s (getD s (t .at) 0) refl (c .before .before .before .before .before .before .before .before .if1 .left) (c .before .before .before .before .before .before .before .if2 .left) (w .result) (w .ensures) (l .i) (q .result) (c .before .before .before .before .if3 .taken) (l .inv .0) (c .before .before .loop-test .taken) (q .ensures) (c .if4 .taken) (l .inv .1 .1)) ∙ t .inv .1 .1
 
 pub search-spec : {M : Type 1} → statement M
 search-spec =

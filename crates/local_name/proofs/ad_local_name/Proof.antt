@@ -95,7 +95,7 @@ returns-3 c =
     let s = now (c .before .before .before .before .before .before .before .before .before .before .before .args .«data») in
     let l = c .before .before .before .before .before .before .before .before .before .loop in
     let u = c .before .is-utf8 in
-    sym (name-good (l .at) s (getD s (l .at) 0) refl (omega arith) (omega arith) (u .result) (c .before .before .before .if3 .taken) (u .ensures) (c .if4 .taken)) ∙ l .inv .1
+    sym (name-good (l .at) s (getD s (l .at) 0) refl (c .before .before .before .before .before .before .if1 .left) (c .before .before .before .before .before .if2 .left) _ refl (c .before .before .before .if3 .taken) (u .result) (u .ensures) (c .if4 .taken)) ∙ l .inv .1
 
 -- src/lib.rt:127:13
 returns-4 : tie.Need-returns-4 Inv-loop μ-loop
@@ -103,7 +103,7 @@ returns-4 c =
     let s = now (c .before .before .before .before .before .before .before .before .before .before .before .args .«data») in
     let l = c .before .before .before .before .before .before .before .before .before .loop in
     let u = c .before .is-utf8 in
-    sym (name-bad (l .at) s (getD s (l .at) 0) refl (omega arith) (omega arith) (u .result) (c .before .before .before .if3 .taken) (u .ensures) (c .if4 .left)) ∙ l .inv .1
+    sym (name-bad (l .at) s (getD s (l .at) 0) refl (c .before .before .before .before .before .before .if1 .left) (c .before .before .before .before .before .if2 .left) _ refl (c .before .before .before .if3 .taken) (u .result) (u .ensures) (c .if4 .left)) ∙ l .inv .1
 
 -- src/lib.rt:112:5
 loop-less : tie.Need-loop-less Inv-loop μ-loop
@@ -114,7 +114,8 @@ loop-again : tie.Need-loop-again Inv-loop μ-loop
 loop-again c =
     let s = now (c .before .before .before .before .before .before .before .before .args .«data») in
     let l = c .before .before .before .before .before .before .loop in
-    (omega arith, sym (name-later (l .at) s (getD s (l .at) 0) refl (omega arith) (omega arith) (c .if3 .left)) ∙ l .inv .1)
+    let later = name-later (l .at) s (getD s (l .at) 0) refl (c .before .before .before .if1 .left) (c .before .before .if2 .left) _ refl (c .if3 .left) in
+    (later .0, sym (later .1) ∙ l .inv .1)
 
 -- src/lib.rt:108:1
 returns-5 : tie.Need-returns-5 Inv-loop μ-loop
