@@ -71,12 +71,12 @@ fn sequence_len(s: &[u8], at: usize) -> usize
     ensures { λ r. ⌜ r ≡ sequence (drop at (now (s .entry))) ⌝ }
 {
     let a = byte_or_none(s, at);
-    let b = byte_or_none(s, at + 1);
-    let c = byte_or_none(s, at + 2);
-    let d = byte_or_none(s, at + 3);
     if a <= LAST_SINGLE {
         return 1;
     }
+    let b = byte_or_none(s, at + 1);
+    let c = byte_or_none(s, at + 2);
+    let d = byte_or_none(s, at + 3);
     if is_two(a, b) {
         return 2;
     }
