@@ -1,2 +1,1 @@
-pub mod Sequences
 pub mod Names

@@ -12,7 +12,7 @@ use Rattle.advertising.specs.declared.Place.the-variants.{Body, Nothing}
 use Rattle.advertising.proofs.Lists.{part}
 use Rattle.advertising.proofs.Structures.{readAt, read-here, body-length, AllLie, all-lie}
 use Rattle.advertising.proofs.Searches.{FoundLies, lies-by, At, at-by}
-use Rattle.local_name.specs.Utf8.{utf8}
+use Rattle.utf8.specs.Utf8.{utf8}
 use Rattle.local_name.specs.Name.{naming, nameOf, localName}
 
 -- the name that stands from at on

@@ -6,7 +6,7 @@ use Rattle.base.specs.Choice.{pick, within}
 use Rattle.advertising.specs.Ad.{Ad, structures, Found, One, None}
 use Rattle.advertising.specs.declared.Place.{Place}
 use Rattle.advertising.specs.declared.Place.the-variants.{Body, Nothing}
-use Rattle.local_name.specs.Utf8.{utf8}
+use Rattle.utf8.specs.Utf8.{utf8}
 
 -- the first structure that carries the name: kind 08, shortened, or 09, complete
 unfoldable pub naming : List Ad → Found

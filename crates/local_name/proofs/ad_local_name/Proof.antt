@@ -11,7 +11,7 @@ use Rattle.local_name.proofs.ad_local_name.Statement.{statement}
 use Rattle.local_name.proofs.ad_local_name.Tie as tie
 use Rattle.local_name.proofs.ad_local_name.Reads as reads
 use Rattle.local_name.proofs.ad_local_name.Lts as lts
-use Rattle.local_name.proofs.is_utf8.Reads as is-utf8-reads
+use Rattle.utf8.proofs.is_utf8.Reads as is-utf8-reads
 
 abbrev Inv-loop : tie.InvT-loop
 Inv-loop «data» at₀ at = (at ≤ length «data») × (nameFrom at «data» ≡ localName «data»)

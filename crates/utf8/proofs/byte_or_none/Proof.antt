@@ -2,12 +2,12 @@ use mathlib.Core.Path.{sym}
 use native.Mathlib.Omega.{arith}
 use lib.ListN.{List·getD-eq-default}
 use denote.Ref.{now}
-use Rattle.local_name.proofs.Sequences.{getD-any}
+use Rattle.utf8.proofs.Sequences.{getD-any}
 use borrow.Author.Needs.{needs}
-use Rattle.local_name.proofs.byte_or_none.Statement.{statement}
-use Rattle.local_name.proofs.byte_or_none.Tie as tie
-use Rattle.local_name.proofs.byte_or_none.Reads as reads
-use Rattle.local_name.proofs.byte_or_none.Lts as lts
+use Rattle.utf8.proofs.byte_or_none.Statement.{statement}
+use Rattle.utf8.proofs.byte_or_none.Tie as tie
+use Rattle.utf8.proofs.byte_or_none.Reads as reads
+use Rattle.utf8.proofs.byte_or_none.Lts as lts
 
 -- src/lib.rt:32:23
 shared-slice-read-result : tie.Need-shared-slice-read-result

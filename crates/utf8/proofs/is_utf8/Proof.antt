@@ -3,13 +3,13 @@ use mathlib.Core.Path.{_≡_, refl, sym, _∙_}
 use native.Mathlib.Omega.{arith}
 use lib.ListN.{length}
 use denote.Ref.{now}
-use Rattle.local_name.specs.Utf8.{utf8}
-use Rattle.local_name.proofs.Sequences.{utf8From, utf8-end, utf8-step, utf8-bad, within-rest}
-use Rattle.local_name.proofs.is_utf8.Statement.{statement}
-use Rattle.local_name.proofs.is_utf8.Tie as tie
-use Rattle.local_name.proofs.is_utf8.Reads as reads
-use Rattle.local_name.proofs.is_utf8.Lts as lts
-use Rattle.local_name.proofs.sequence_len.Reads as sequence-len-reads
+use Rattle.utf8.specs.Utf8.{utf8}
+use Rattle.utf8.proofs.Sequences.{utf8From, utf8-end, utf8-step, utf8-bad, within-rest}
+use Rattle.utf8.proofs.is_utf8.Statement.{statement}
+use Rattle.utf8.proofs.is_utf8.Tie as tie
+use Rattle.utf8.proofs.is_utf8.Reads as reads
+use Rattle.utf8.proofs.is_utf8.Lts as lts
+use Rattle.utf8.proofs.sequence_len.Reads as sequence-len-reads
 
 abbrev Inv-loop : tie.InvT-loop
 Inv-loop s at₀ at = (at ≤ length s) × (utf8From at s ≡ utf8 s)

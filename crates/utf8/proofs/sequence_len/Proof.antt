@@ -1,15 +1,15 @@
 use mathlib.Core.Path.{refl}
 use denote.Ref.{now}
-use Rattle.local_name.proofs.Sequences.{one-byte, two-bytes, three-bytes, four-bytes, no-bytes}
+use Rattle.utf8.proofs.Sequences.{one-byte, two-bytes, three-bytes, four-bytes, no-bytes}
 use borrow.Author.Needs.{needs}
-use Rattle.local_name.proofs.sequence_len.Statement.{statement}
-use Rattle.local_name.proofs.sequence_len.Tie as tie
-use Rattle.local_name.proofs.sequence_len.Reads as reads
-use Rattle.local_name.proofs.sequence_len.Lts as lts
-use Rattle.local_name.proofs.byte_or_none.Reads as byte-or-none-reads
-use Rattle.local_name.proofs.is_four.Reads as is-four-reads
-use Rattle.local_name.proofs.is_three.Reads as is-three-reads
-use Rattle.local_name.proofs.is_two.Reads as is-two-reads
+use Rattle.utf8.proofs.sequence_len.Statement.{statement}
+use Rattle.utf8.proofs.sequence_len.Tie as tie
+use Rattle.utf8.proofs.sequence_len.Reads as reads
+use Rattle.utf8.proofs.sequence_len.Lts as lts
+use Rattle.utf8.proofs.byte_or_none.Reads as byte-or-none-reads
+use Rattle.utf8.proofs.is_four.Reads as is-four-reads
+use Rattle.utf8.proofs.is_three.Reads as is-three-reads
+use Rattle.utf8.proofs.is_two.Reads as is-two-reads
 
 -- src/lib.rt:73:9
 byte-or-none-requires : tie.Need-byte-or-none-requires

@@ -10,7 +10,7 @@ use lib.Seq.{drop-cons, drop-drop}
 use lib.Dec.{ltb, leb, eqb, leb·zero}
 use borrow.Author.Tests.{ltb-true, ltb-false, lt-leb, le-leb, eq-eqb, ne-eqb, eqb-true, eqb-false}
 use Rattle.base.specs.Choice.{pick, within}
-use Rattle.local_name.specs.Utf8.{Range, ones, twos, threes, fours, begins, some, sequence, runs, utf8}
+use Rattle.utf8.specs.Utf8.{Range, ones, twos, threes, fours, begins, some, sequence, runs, utf8}
 
 both : (a b : Bool) → (a && b) ≡ true → (a ≡ true) × (b ≡ true)
 both true b h = (refl, h)
