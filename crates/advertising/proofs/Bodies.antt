@@ -1,11 +1,11 @@
 -- What the answer of a search makes of the bytes and of the place of the body.
 use Prim.Native.Nat.{ℕ, _+_, _-_}
-use mathlib.Core.Path.{_≡_, refl, ap, sym, _∙_}
+use mathlib.Core.Path.{_≡_, refl}
 use mathlib.Core.List.{List, []}
 use native.Mathlib.Nat.{add-sub-cancel-left}
 use lib.ListN.{take, drop}
 use denote.Ref.{RefT, now}
-use Rattle.advertising.specs.Ad.{listing, structures, listedPlace}
+use Rattle.advertising.specs.Ad.{listedPlace}
 use Rattle.advertising.specs.Body.{listedBody, listedAt}
 use Rattle.advertising.specs.declared.Place.the-variants.{Body, Nothing}
 use Rattle.advertising.proofs.Searches.{found-at, found-none}

@@ -1,9 +1,9 @@
 -- How the UUIDs of a list go on, one at a time, and how one is read.
 use Prim.Native.Nat.{ℕ, _+_, _-_, _/_, _≤_, _<_}
-use mathlib.Core.Path.{_≡_, refl, ap, ap₂, sym, _∙_}
+use mathlib.Core.Path.{_≡_, refl, ap, _∙_}
 use mathlib.Core.Bool.{Bool, true, false, _||_}
-use mathlib.Core.List.{List, [], _∷_, map}
-use mathlib.Core.Logic.{_⊎_, inl, inr}
+use mathlib.Core.List.{List, [], _∷_}
+use mathlib.Core.Logic.{inl, inr}
 use native.Mathlib.Omega.{arith}
 use native.Mathlib.Numerals.{add-one}
 use native.Mathlib.Nat.{div-eq-of-lt, div-eq-sub-div}
@@ -11,7 +11,7 @@ use lib.ListN.{length, take, drop, length-drop}
 use lib.Seq.{drop-drop, take-take, take-add, drop-at, length-take-le}
 use lib.Dec.{eqb}
 use Rattle.base.specs.Choice.{pick, within}
-use Rattle.base.specs.Bytes.{le, leAt}
+use Rattle.base.specs.Bytes.{leAt}
 use Rattle.base.proofs.ByteLaws.{leAt-in}
 use Rattle.uuid.specs.Value.{num, ofNum, shortOf}
 use Rattle.uuid.specs.declared.Uuid.{Uuid}

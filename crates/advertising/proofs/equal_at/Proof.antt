@@ -6,62 +6,43 @@ use Rattle.advertising.proofs.Lists.{is-short, test-long, test-short}
 use borrow.Author.Needs.{needs}
 use Rattle.advertising.proofs.equal_at.Statement.{statement}
 use Rattle.advertising.proofs.equal_at.Tie as tie
-use Rattle.advertising.proofs.equal_at.Reads as reads
-use Rattle.advertising.proofs.equal_at.Lts as lts
-use Rattle.base.proofs.le16.Reads as le16-reads
-use Rattle.base.proofs.le32.Reads as le32-reads
-use Rattle.uuid.proofs.Uuid.equals.Reads as equals-reads
-use Rattle.uuid.proofs.Uuid.from_128.Reads as from-128-reads
-use Rattle.uuid.proofs.Uuid.from_u16.Reads as from-u16-reads
-use Rattle.uuid.proofs.Uuid.from_u32.Reads as from-u32-reads
 
--- src/lib.rt:58:16
 from-128-requires : tie.Need-from-128-requires
 from-128-requires c κs = search needs
 
--- src/lib.rt:58:9
 equals-requires : tie.Need-equals-requires
 equals-requires c κs = search needs
 
--- src/lib.rt:58:9
 returns : tie.Need-returns
 returns c =
     let a = c .before .before .before .before .args in
     c .equals .ensures
     ∙ test-long (now (a .«data»)) (a .at) (a .width) (c .before .from-128 .result) (num (a .uuid)) (omega arith) (c .before .before .if1 .taken) (c .before .from-128 .ensures)
 
--- src/lib.rt:61:31
 le32-requires : tie.Need-le32-requires
 le32-requires c κs = search needs
 
--- src/lib.rt:61:16
 from-u32-requires : tie.Need-from-u32-requires
 from-u32-requires c κs = search needs
 
--- src/lib.rt:61:9
 equals-requires-2 : tie.Need-equals-requires-2
 equals-requires-2 c κs = search needs
 
--- src/lib.rt:61:9
 returns-2 : tie.Need-returns-2
 returns-2 c =
     let a = c .before .before .before .before .before .before .args in
     c .equals2 .ensures
     ∙ test-short (now (a .«data»)) (a .at) (a .width) (c .before .from-u32 .result) (num (a .uuid)) (omega arith) 4 (c .before .before .le32 .result) (c .before .before .before .if2 .taken) refl (c .before .from-u32 .ensures) (c .before .before .le32 .ensures)
 
--- src/lib.rt:63:20
 le16-requires : tie.Need-le16-requires
 le16-requires c κs = search needs
 
--- src/lib.rt:63:5
 from-u16-requires : tie.Need-from-u16-requires
 from-u16-requires c κs = search needs
 
--- src/lib.rt:63:5
 equals-requires-3 : tie.Need-equals-requires-3
 equals-requires-3 c κs = search needs
 
--- src/lib.rt:53:1
 returns-3 : tie.Need-returns-3
 returns-3 c =
     let start = c .before .before .before .before .before .before in

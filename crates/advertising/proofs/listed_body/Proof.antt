@@ -1,103 +1,80 @@
-use mathlib.Core.Path.{_≡_, refl, sym, ap, _∙_}
+use mathlib.Core.Path.{sym, _∙_}
 use native.Mathlib.Omega.{arith}
 use denote.Ref.{now}
 use Rattle.uuid.specs.Value.{num}
-use Rattle.advertising.specs.Ad.{listedPlace}
-use Rattle.advertising.specs.declared.Place.the-variants.{Body, Nothing}
 use Rattle.advertising.proofs.Searches.{found-at}
 use Rattle.advertising.proofs.Bodies.{in-data, in-response, in-neither}
 use borrow.Author.Needs.{needs}
 use Rattle.advertising.proofs.listed_body.Statement.{statement}
 use Rattle.advertising.proofs.listed_body.Tie as tie
-use Rattle.advertising.proofs.listed_body.Reads as reads
-use Rattle.advertising.proofs.listed_body.Lts as lts
-use Rattle.advertising.proofs.search.Reads as search-reads
 
--- src/lib.rt:113:11
 search-requires : tie.Need-search-requires
 search-requires c κs = search needs
 
--- src/lib.rt:114:21
 enum-known-start : tie.Need-enum-known-start
 enum-known-start c = search needs
 
--- src/lib.rt:114:49
 add-result : tie.Need-add-result
 add-result c =
     let a = c .before .before .before .before .before .before .args in
     let f = found-at (num (a .uuid)) (now (a .«data»)) _ _ (sym (c .before .start .given .1) ∙ c .before .before .before .search .ensures) in
     omega (arith, f .inside)
 
--- src/lib.rt:114:36
 sub-result : tie.Need-sub-result
 sub-result c = search needs
 
--- src/lib.rt:114:36
 part-result-start : tie.Need-part-result-start
 part-result-start c = search needs
 
--- src/lib.rt:114:36
 part-result-end : tie.Need-part-result-end
 part-result-end c =
     let a = c .before .before .before .before .before .before .args in
     let f = found-at (num (a .uuid)) (now (a .«data»)) _ _ (sym (c .before .start .given .1) ∙ c .before .before .before .search .ensures) in
     omega (arith, f .inside)
 
--- src/lib.rt:115:33
 enum-told : tie.Need-enum-told
 enum-told c = search needs
 
--- src/lib.rt:115:33
 search-requires-2 : tie.Need-search-requires-2
 search-requires-2 c κs = search needs
 
--- src/lib.rt:116:25
 enum-known-start-2 : tie.Need-enum-known-start-2
 enum-known-start-2 c = search needs
 
--- src/lib.rt:116:57
 add-result-2 : tie.Need-add-result-2
 add-result-2 c =
     let a = c .before .before .before .before .before .before .before .before .before .args in
     let f = found-at (num (a .uuid)) (now (a .response)) _ _ (sym (c .before .start2 .given .1) ∙ c .before .before .before .search2 .ensures) in
     omega (arith, f .inside)
 
--- src/lib.rt:116:40
 sub-result-2 : tie.Need-sub-result-2
 sub-result-2 c = search needs
 
--- src/lib.rt:116:40
 part-result-start-2 : tie.Need-part-result-start-2
 part-result-start-2 c = search needs
 
--- src/lib.rt:116:40
 part-result-end-2 : tie.Need-part-result-end-2
 part-result-end-2 c =
     let a = c .before .before .before .before .before .before .before .before .before .args in
     let f = found-at (num (a .uuid)) (now (a .response)) _ _ (sym (c .before .start2 .given .1) ∙ c .before .before .before .search2 .ensures) in
     omega (arith, f .inside)
 
--- src/lib.rt:117:31
 enum-told-2 : tie.Need-enum-told-2
 enum-told-2 c = search needs
 
--- src/lib.rt:117:31
 slice-aggregate-result : tie.Need-slice-aggregate-result
 slice-aggregate-result c = search needs
 
--- src/lib.rt:109:1
 returns : tie.Need-returns
 returns c =
     let a = c .before .before .before .before .before .before .before .args in
     in-data (num (a .uuid)) (a .«data») (a .response) _ _ (sym (c .before .before .start .given .1) ∙ c .before .before .before .before .search .ensures)
 
--- src/lib.rt:109:1
 returns-2 : tie.Need-returns-2
 returns-2 c =
     let a = c .before .before .before .before .before .before .before .before .before .before .args in
     in-response (num (a .uuid)) (a .«data») (a .response) (sym (c .before .before .before .before .before .enum-told .given .1) ∙ c .before .before .before .before .before .before .before .search .ensures) _ _ (sym (c .before .before .start2 .given .1) ∙ c .before .before .before .before .search2 .ensures)
 
--- src/lib.rt:109:1
 returns-3 : tie.Need-returns-3
 returns-3 c =
     let a = c .before .before .before .before .before .before .before .before .before .args in

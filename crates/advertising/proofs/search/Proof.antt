@@ -1,5 +1,5 @@
-use Prim.Native.Nat.{ℕ, _+_, _-_, _≤_, _<_}
-use mathlib.Core.Path.{_≡_, refl, ap, sym, _∙_}
+use Prim.Native.Nat.{_+_, _-_, _≤_, _<_}
+use mathlib.Core.Path.{_≡_, refl, sym, _∙_}
 use native.Mathlib.Omega.{arith}
 use borrow.Author.Needs.{needs}
 use lib.ListN.{length, getD}
@@ -11,10 +11,6 @@ use Rattle.advertising.proofs.Lists.{is-width}
 use Rattle.advertising.proofs.Searches.{from, rest, stop-zero, stop-past, list-none, list-done, list-later, list-here}
 use Rattle.advertising.proofs.search.Statement.{statement}
 use Rattle.advertising.proofs.search.Tie as tie
-use Rattle.advertising.proofs.search.Reads as reads
-use Rattle.advertising.proofs.search.Lts as lts
-use Rattle.advertising.proofs.equal_at.Reads as equal-at-reads
-use Rattle.advertising.proofs.width_of.Reads as width-of-reads
 
 abbrev Inv-loop : tie.InvT-loop
 Inv-loop «data» uuid place₀ at len body next width i₀ place i =
@@ -31,75 +27,58 @@ Inv-structures «data» uuid place₀ at₀ place at =
 abbrev μ-structures : tie.MeasureT-structures
 μ-structures «data» uuid place₀ at₀ place at = length «data» - at
 
--- src/lib.rt:72:5
 structures-holds : tie.Need-structures-holds Inv-loop μ-loop Inv-structures μ-structures
 structures-holds c = (omega arith, (refl, refl))
 
--- src/lib.rt:73:19
 shared-slice-read-len : tie.Need-shared-slice-read-len Inv-loop μ-loop Inv-structures μ-structures
 shared-slice-read-len c = omega arith
 
--- src/lib.rt:73:19
 cast-len : tie.Need-cast-len Inv-loop μ-loop Inv-structures μ-structures
 cast-len c = omega (arith, c .shared-slice-known2 .given (c .before .before .structures .at))
 
--- src/lib.rt:77:12
 sub-if2 : tie.Need-sub-if2 Inv-loop μ-loop Inv-structures μ-structures
 sub-if2 c = omega arith
 
--- src/lib.rt:80:20
 add-body : tie.Need-add-body Inv-loop μ-loop Inv-structures μ-structures
 add-body c = omega arith
 
--- src/lib.rt:81:20
 add-next : tie.Need-add-next Inv-loop μ-loop Inv-structures μ-structures
 add-next c = omega arith
 
--- src/lib.rt:81:20
 add-next-2 : tie.Need-add-next-2 Inv-loop μ-loop Inv-structures μ-structures
 add-next-2 c = omega arith
 
--- src/lib.rt:82:35
 add-width-of : tie.Need-add-width-of Inv-loop μ-loop Inv-structures μ-structures
 add-width-of c = omega arith
 
--- src/lib.rt:82:30
 shared-slice-read-width-of :
     tie.Need-shared-slice-read-width-of Inv-loop μ-loop Inv-structures μ-structures
 shared-slice-read-width-of c = omega arith
 
--- src/lib.rt:82:13
 width-of-requires : tie.Need-width-of-requires Inv-loop μ-loop Inv-structures μ-structures
 width-of-requires c κs = search needs
 
--- src/lib.rt:85:13
 loop-holds : tie.Need-loop-holds Inv-loop μ-loop Inv-structures μ-structures
 loop-holds c = (omega arith, (c .before .before .before .before .before .before .before .structures .inv .1 .0, refl))
 
--- src/lib.rt:85:28
 sub-loop : tie.Need-sub-loop Inv-loop μ-loop Inv-structures μ-structures
 sub-loop c = omega arith
 
--- src/lib.rt:86:20
 equal-at-requires : tie.Need-equal-at-requires Inv-loop μ-loop Inv-structures μ-structures
 equal-at-requires c κs =
     let k = getD (now (c .before .before .before .before .before .before .before .before .before .before .before .args .«data»)) (c .before .before .before .before .before .before .before .before .before .structures .at + 1) 0 in
     let h : 0 < widthOf k = omega arith in
     (omega arith, rw (c .before .before .before .width-of .ensures) (is-width k h))
 
--- src/lib.rt:87:47
 sub-t19 : tie.Need-sub-t19 Inv-loop μ-loop Inv-structures μ-structures
 sub-t19 c = omega arith
 
--- src/lib.rt:90:17
 add-i : tie.Need-add-i Inv-loop μ-loop Inv-structures μ-structures
 add-i c = omega arith
 
--- src/lib.rt:85:13
 loop-less : tie.Need-loop-less Inv-loop μ-loop Inv-structures μ-structures
 loop-less c = omega arith
 
--- src/lib.rt:85:13
 loop-again : tie.Need-loop-again Inv-loop μ-loop Inv-structures μ-structures
 loop-again c =
     let a = c .before .before .before .before .before .before .before .before .before .before .before .before .before .args in
@@ -111,11 +90,9 @@ loop-again c =
     let later = list-later (num (a .uuid)) (t .at) s (getD s (t .at) 0) refl (c .before .before .before .before .before .before .before .before .if1 .left) (c .before .before .before .before .before .before .before .if2 .left) (w .result) (w .ensures) (l .i) (q .result) (c .before .before .before .before .if3 .taken) (l .inv .0) (c .before .before .loop-test .taken) (q .ensures) (c .if4 .left) in
     (later .0, (l .inv .1 .0, sym (later .1) ∙ l .inv .1 .1))
 
--- src/lib.rt:72:5
 structures-less : tie.Need-structures-less Inv-loop μ-loop Inv-structures μ-structures
 structures-less c = omega arith
 
--- src/lib.rt:72:5
 structures-again : tie.Need-structures-again Inv-loop μ-loop Inv-structures μ-structures
 structures-again c =
     let a = c .before .before .before .before .before .before .before .before .before .before .before .args in
@@ -126,11 +103,9 @@ structures-again c =
     let done = list-done (num (a .uuid)) (t .at) s (getD s (t .at) 0) refl (c .before .before .before .before .before .before .if1 .left) (c .before .before .before .before .before .if2 .left) (w .result) (w .ensures) (l .i) (c .loop-test .left) (l .inv .1 .1) in
     (done .0, (l .inv .1 .0, sym (done .1) ∙ t .inv .1 .1))
 
--- src/lib.rt:72:5
 structures-less-2 : tie.Need-structures-less-2 Inv-loop μ-loop Inv-structures μ-structures
 structures-less-2 c = omega arith
 
--- src/lib.rt:72:5
 structures-again-2 : tie.Need-structures-again-2 Inv-loop μ-loop Inv-structures μ-structures
 structures-again-2 c =
     let a = c .before .before .before .before .before .before .before .before .before .args in
@@ -140,28 +115,24 @@ structures-again-2 c =
     let none = list-none (num (a .uuid)) (t .at) s (getD s (t .at) 0) refl (c .before .before .before .before .if1 .left) (c .before .before .before .if2 .left) (w .result) (w .ensures) (c .if3 .left) in
     (none .0, (t .inv .1 .0, sym (none .1) ∙ t .inv .1 .1))
 
--- src/lib.rt:67:1
 returns : tie.Need-returns Inv-loop μ-loop Inv-structures μ-structures
 returns c =
     let a = c .before .before .before .args in
     let t = c .before .structures in
     t .inv .1 .0 ∙ sym (stop-past (num (a .uuid)) (t .at) (now (a .«data»)) (omega arith)) ∙ t .inv .1 .1
 
--- src/lib.rt:67:1
 returns-2 : tie.Need-returns-2 Inv-loop μ-loop Inv-structures μ-structures
 returns-2 c =
     let a = c .before .before .before .before .before .args in
     let t = c .before .before .before .structures in
     t .inv .1 .0 ∙ sym (stop-zero (num (a .uuid)) (t .at) (now (a .«data»)) (c .if1 .taken)) ∙ t .inv .1 .1
 
--- src/lib.rt:67:1
 returns-3 : tie.Need-returns-3 Inv-loop μ-loop Inv-structures μ-structures
 returns-3 c =
     let a = c .before .before .before .before .before .before .args in
     let t = c .before .before .before .before .structures in
     t .inv .1 .0 ∙ sym (stop-past (num (a .uuid)) (t .at) (now (a .«data»)) (omega arith)) ∙ t .inv .1 .1
 
--- src/lib.rt:67:1
 returns-4 : tie.Need-returns-4 Inv-loop μ-loop Inv-structures μ-structures
 returns-4 c =
     let a = c .before .before .before .before .before .before .before .before .before .before .before .before .before .args in

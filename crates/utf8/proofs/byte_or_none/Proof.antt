@@ -6,22 +6,16 @@ use Rattle.utf8.proofs.Sequences.{getD-any}
 use borrow.Author.Needs.{needs}
 use Rattle.utf8.proofs.byte_or_none.Statement.{statement}
 use Rattle.utf8.proofs.byte_or_none.Tie as tie
-use Rattle.utf8.proofs.byte_or_none.Reads as reads
-use Rattle.utf8.proofs.byte_or_none.Lts as lts
 
--- src/lib.rt:32:23
 shared-slice-read-result : tie.Need-shared-slice-read-result
 shared-slice-read-result c = search needs
 
--- src/lib.rt:32:23
 cast-result : tie.Need-cast-result
 cast-result c = omega (arith, c .shared-slice-known .given (c .before .before .args .at))
 
--- src/lib.rt:29:1
 returns : tie.Need-returns
 returns c = getD-any (now (c .before .before .args .s)) (c .before .before .args .at) 0 256 (omega arith)
 
--- src/lib.rt:29:1
 returns-2 : tie.Need-returns-2
 returns-2 c = sym (List·getD-eq-default (now (c .before .args .s)) 256 (omega arith))
 

@@ -2,10 +2,7 @@ use mathlib.Core.Bool.{and-assoc, and-true, or-assoc, or-false}
 use Rattle.utf8.specs.Utf8.{some, begins}
 use Rattle.utf8.proofs.is_three.Statement.{statement}
 use Rattle.utf8.proofs.is_three.Tie as tie
-use Rattle.utf8.proofs.is_three.Reads as reads
-use Rattle.utf8.proofs.is_three.Lts as lts
 
--- src/lib.rt:43:1
 returns : tie.Need-returns
 unfolding some begins
 returns c = simp (and-assoc, and-true, or-assoc, or-false)

@@ -7,9 +7,6 @@ use Rattle.utf8.specs.Utf8.{utf8}
 use Rattle.utf8.proofs.Sequences.{utf8From, utf8-end, utf8-step, utf8-bad, within-rest}
 use Rattle.utf8.proofs.is_utf8.Statement.{statement}
 use Rattle.utf8.proofs.is_utf8.Tie as tie
-use Rattle.utf8.proofs.is_utf8.Reads as reads
-use Rattle.utf8.proofs.is_utf8.Lts as lts
-use Rattle.utf8.proofs.sequence_len.Reads as sequence-len-reads
 
 abbrev Inv-loop : tie.InvT-loop
 Inv-loop s at₀ at = (at ≤ length s) × (utf8From at s ≡ utf8 s)
@@ -17,15 +14,12 @@ Inv-loop s at₀ at = (at ≤ length s) × (utf8From at s ≡ utf8 s)
 abbrev μ-loop : tie.MeasureT-loop
 μ-loop s at₀ at = length s - at
 
--- src/lib.rt:97:5
 loop-holds : tie.Need-loop-holds Inv-loop μ-loop
 loop-holds c = (omega arith, refl)
 
--- src/lib.rt:98:13
 sequence-len-requires : tie.Need-sequence-len-requires Inv-loop μ-loop
 sequence-len-requires c κs = omega arith
 
--- src/lib.rt:100:13
 returns : tie.Need-returns Inv-loop μ-loop
 returns c =
     let s = now (c .before .before .before .before .before .args .s) in
@@ -33,7 +27,6 @@ returns c =
     let n = c .before .sequence-len in
     sym (utf8-bad s (l .at) (n .result) (n .ensures) (omega arith) (c .if1 .taken)) ∙ l .inv .1
 
--- src/lib.rt:102:9
 add-at : tie.Need-add-at Inv-loop μ-loop
 add-at c =
     let s = now (c .before .before .before .before .before .args .s) in
@@ -41,7 +34,6 @@ add-at c =
     let n = c .before .sequence-len in
     omega (arith, within-rest s (l .at) (n .result) (n .ensures) (omega arith))
 
--- src/lib.rt:97:5
 loop-less : tie.Need-loop-less Inv-loop μ-loop
 loop-less c =
     let s = now (c .before .before .before .before .before .args .s) in
@@ -49,7 +41,6 @@ loop-less c =
     let n = c .before .sequence-len in
     omega (arith, within-rest s (l .at) (n .result) (n .ensures) (omega arith), c .if1 .left)
 
--- src/lib.rt:97:5
 loop-again : tie.Need-loop-again Inv-loop μ-loop
 loop-again c =
     let s = now (c .before .before .before .before .before .args .s) in
@@ -57,7 +48,6 @@ loop-again c =
     let n = c .before .sequence-len in
     (omega (arith, within-rest s (l .at) (n .result) (n .ensures) (omega arith)), sym (utf8-step s (l .at) (n .result) (n .ensures) (omega arith) (c .if1 .left)) ∙ l .inv .1)
 
--- src/lib.rt:93:1
 returns-2 : tie.Need-returns-2 Inv-loop μ-loop
 returns-2 c =
     let s = now (c .before .before .before .args .s) in

@@ -4,81 +4,60 @@ use Rattle.utf8.proofs.Sequences.{one-byte, two-bytes, three-bytes, fou
 use borrow.Author.Needs.{needs}
 use Rattle.utf8.proofs.sequence_len.Statement.{statement}
 use Rattle.utf8.proofs.sequence_len.Tie as tie
-use Rattle.utf8.proofs.sequence_len.Reads as reads
-use Rattle.utf8.proofs.sequence_len.Lts as lts
-use Rattle.utf8.proofs.byte_or_none.Reads as byte-or-none-reads
-use Rattle.utf8.proofs.is_four.Reads as is-four-reads
-use Rattle.utf8.proofs.is_three.Reads as is-three-reads
-use Rattle.utf8.proofs.is_two.Reads as is-two-reads
 
--- src/lib.rt:73:9
 byte-or-none-requires : tie.Need-byte-or-none-requires
 byte-or-none-requires c κs = search needs
 
--- src/lib.rt:75:9
 returns : tie.Need-returns
 returns c =
     let p = c .before .before .before .args in
     one-byte (now (p .s)) (p .at) _ _ _ _ (c .before .byte-or-none .ensures) refl refl refl (c .if1 .taken)
 
--- src/lib.rt:77:29
 add-byte-or-none : tie.Need-add-byte-or-none
 add-byte-or-none c = search needs
 
--- src/lib.rt:77:9
 byte-or-none-requires-2 : tie.Need-byte-or-none-requires-2
 byte-or-none-requires-2 c κs = search needs
 
--- src/lib.rt:78:29
 add-byte-or-none-2 : tie.Need-add-byte-or-none-2
 add-byte-or-none-2 c = search needs
 
--- src/lib.rt:78:9
 byte-or-none-requires-3 : tie.Need-byte-or-none-requires-3
 byte-or-none-requires-3 c κs = search needs
 
--- src/lib.rt:79:29
 add-byte-or-none-3 : tie.Need-add-byte-or-none-3
 add-byte-or-none-3 c = search needs
 
--- src/lib.rt:79:9
 byte-or-none-requires-4 : tie.Need-byte-or-none-requires-4
 byte-or-none-requires-4 c κs = search needs
 
--- src/lib.rt:80:8
 is-two-requires : tie.Need-is-two-requires
 is-two-requires c κs = search needs
 
--- src/lib.rt:81:9
 returns-2 : tie.Need-returns-2
 returns-2 c =
     let p = c .before .before .before .before .before .before .before .before .args in
     two-bytes (now (p .s)) (p .at) _ _ _ _ (c .before .before .before .before .before .before .byte-or-none .ensures) (c .before .before .before .before .byte-or-none2 .ensures) (c .before .before .before .byte-or-none3 .ensures) (c .before .before .byte-or-none4 .ensures)
     (c .before .before .before .before .before .if1 .left) _ (c .before .is-two .ensures) (c .if2 .taken)
 
--- src/lib.rt:83:8
 is-three-requires : tie.Need-is-three-requires
 is-three-requires c κs = search needs
 
--- src/lib.rt:84:9
 returns-3 : tie.Need-returns-3
 returns-3 c =
     let p = c .before .before .before .before .before .before .before .before .before .before .args in
     three-bytes (now (p .s)) (p .at) _ _ _ _ (c .before .before .before .before .before .before .before .before .byte-or-none .ensures) (c .before .before .before .before .before .before .byte-or-none2 .ensures) (c .before .before .before .before .before .byte-or-none3 .ensures) (c .before .before .before .before .byte-or-none4 .ensures)
     (c .before .before .before .before .before .before .before .if1 .left) _ (c .before .before .before .is-two .ensures) (c .before .before .if2 .left) _ (c .before .is-three .ensures) (c .if3 .taken)
 
--- src/lib.rt:86:8
 is-four-requires : tie.Need-is-four-requires
 is-four-requires c κs = search needs
 
--- src/lib.rt:87:9
 returns-4 : tie.Need-returns-4
 returns-4 c =
     let p = c .before .before .before .before .before .before .before .before .before .before .before .before .args in
     four-bytes (now (p .s)) (p .at) _ _ _ _ (c .before .before .before .before .before .before .before .before .before .before .byte-or-none .ensures) (c .before .before .before .before .before .before .before .before .byte-or-none2 .ensures) (c .before .before .before .before .before .before .before .byte-or-none3 .ensures) (c .before .before .before .before .before .before .byte-or-none4 .ensures)
     (c .before .before .before .before .before .before .before .before .before .if1 .left) _ (c .before .before .before .before .before .is-two .ensures) (c .before .before .before .before .if2 .left) _ (c .before .before .before .is-three .ensures) (c .before .before .if3 .left) _ (c .before .is-four .ensures) (c .if4 .taken)
 
--- src/lib.rt:69:1
 returns-5 : tie.Need-returns-5
 returns-5 c =
     let p = c .before .before .before .before .before .before .before .before .before .before .before .before .args in
