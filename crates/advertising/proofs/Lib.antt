@@ -1,0 +1,4 @@
+pub mod Lists
+pub mod Structures
+pub mod Searches
+pub mod Bodies

@@ -1,0 +1,3 @@
+pub mod Ad
+pub mod Body
+pub mod Samples
