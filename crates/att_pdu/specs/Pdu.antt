@@ -2,18 +2,7 @@
 use Prim.Native.Nat.{ℕ}
 use mathlib.Core.List.{List, [], _∷_, _++_}
 use Rattle.base.specs.Bytes.{leBytes}
-use Rattle.att_pdu.specs.Numbers.{
-  opErrorRsp,
-  opExchangeMtuReq,
-  opExchangeMtuRsp,
-  opFindInformationReq,
-  opReadByTypeReq,
-  opReadReq,
-  opReadByGroupTypeReq,
-  opWriteReq,
-  opWriteCmd,
-  opHandleValueCfm,
-}
+use Rattle.att_pdu.specs.Numbers.{opErrorRsp, opExchangeMtuReq, opExchangeMtuRsp, opFindInformationReq, opReadByTypeReq, opReadReq, opReadByGroupTypeReq, opWriteReq, opWriteCmd, opHandleValueCfm}
 
 -- 3.4.1.1: the opcode of the request in error, the handle in error, the error code
 abbrev pub attError : ℕ → ℕ → ℕ → List ℕ

@@ -1,19 +1,18 @@
 -- A frame is written in two copies: what stands before the caller's bytes, and those bytes.
-use Prim.Native.Nat.{ℕ, _+_, _≤_, _<_, _^_}
+use Prim.Native.Nat.{ℕ, _+_, _≤_}
 use mathlib.Core.Path.{_≡_, refl, sym, ap, _∙_}
 use mathlib.Core.Bool.{Bool, true, false, _&&_}
-use mathlib.Core.List.{List, [], _∷_, _++_, append-assoc}
+use mathlib.Core.List.{List, _∷_, _++_, append-assoc}
 use native.Mathlib.Omega.{arith}
 use lib.ListN.{length, take, drop, length-append, length-drop}
 use lib.Seq.{paste, take-paste, drop-paste, drop-drop, take-all, take-length, length-take-le}
-use lib.Dec.{leb}
-use borrow.Author.Tests.{le-leb, lt-leb, leb-true, leb-false}
+use borrow.Author.Tests.{le-leb, leb-true}
 use Rattle.base.specs.Choice.{pick}
 use Rattle.base.specs.Bytes.{leBytes}
 use Rattle.base.specs.Splice.{inside, splice}
 use Rattle.base.proofs.SpliceLaws.{splice-in, length-splice}
 use Rattle.wire.specs.Numbers.{cidAtt}
-use Rattle.wire.specs.Frame.{l2capFrame, Written, written, room, framed, attPdu, attFramed}
+use Rattle.wire.specs.Frame.{l2capFrame, written, room, framed, attPdu, attFramed}
 use Rattle.wire.proofs.RoomLaws.{has-room, has-att-room}
 use Rattle.wire.specs.FrameLaws.{length-leBytes, length-frame, framed-in, framed-off, value-size, pdu-size}
 

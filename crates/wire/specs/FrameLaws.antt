@@ -1,19 +1,18 @@
 -- Laws of frames: what callers that know of room cite.
 use Prim.Native.Nat.{ℕ, zero, suc, _+_, _/_, _≤_, _<_}
 use mathlib.Core.Path.{_≡_, refl, ap, _∙_}
-use mathlib.Core.Bool.{Bool, true, false, _&&_}
-use mathlib.Core.List.{List, [], _∷_, _++_}
+use mathlib.Core.Bool.{Bool, true, false}
+use mathlib.Core.List.{List, _++_}
 use native.Mathlib.Omega.{arith}
 use lib.ListN.{length, take, drop, length-append, length-drop}
 use lib.Seq.{take-all, length-take-le}
-use lib.Dec.{leb}
 use borrow.Author.Tests.{le-leb, lt-leb}
 use Rattle.base.specs.Choice.{pick}
 use Rattle.base.specs.Bytes.{leBytes}
-use Rattle.base.specs.Splice.{inside, splice}
+use Rattle.base.specs.Splice.{splice}
 use Rattle.base.proofs.SpliceLaws.{splice-in, length-splice}
 use Rattle.wire.specs.Numbers.{cidAtt}
-use Rattle.wire.specs.Frame.{l2capFrame, Written, written, room, framed, attPdu, attFramed}
+use Rattle.wire.specs.Frame.{l2capFrame, written, room, framed, attPdu, attFramed}
 
 pub length-leBytes : (n v : ℕ) → length (leBytes n v) ≡ n
 unfolding leBytes

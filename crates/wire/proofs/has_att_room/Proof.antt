@@ -1,6 +1,5 @@
 -- `wire::has_att_room` meets its contract.
 use Prim.Native.Nat.{_+_}
-use mathlib.Core.Path.{_∙_, sym}
 use native.Mathlib.Omega.{arith}
 use borrow.Author.Tests.{le-leb, lt-leb}
 use borrow.Author.Needs.{needs}
