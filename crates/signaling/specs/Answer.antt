@@ -51,12 +51,16 @@ codeAnswer code id pdu =
 unfoldable pub signalingAnswer : List ℕ → SignalingAnswer
 signalingAnswer pdu = pick (leb 2 (length pdu)) (codeAnswer (getD pdu 0 0) (getD pdu 1 0) pdu) silence
 
--- Part H 3.5.5: every command but pairing failed is told that pairing is not supported
+-- Part H 3.5.5: pairing failed, and the reason
+abbrev pub smpRefusal : SmpAnswer
+smpRefusal = record { len = 2; bytes = pairingFailed ∷ pairingNotSupported ∷ [] }
+
+abbrev pub smpSilence : SmpAnswer
+smpSilence = record { len = 0; bytes = 0 ∷ 0 ∷ [] }
+
+-- every command but pairing failed is told that pairing is not supported
 unfoldable pub smpAnswer : List ℕ → SmpAnswer
-smpAnswer pdu =
-    pick (leb 1 (length pdu) && not (eqb (getD pdu 0 0) pairingFailed))
-    (record { len = 2; bytes = pairingFailed ∷ pairingNotSupported ∷ [] })
-    (record { len = 0; bytes = 0 ∷ 0 ∷ [] })
+smpAnswer pdu = pick (leb 1 (length pdu) && not (eqb (getD pdu 0 0) pairingFailed)) smpRefusal smpSilence
 
 -- the payloads that go back
 abbrev pub signalingPayload : SignalingAnswer → List ℕ

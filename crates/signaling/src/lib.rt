@@ -1,6 +1,5 @@
 // What a central answers on the signaling and security manager channels.
 ghost use mathlib.Core.Path.{_≡_};
-ghost use Prim.Native.Nat.{_<_};
 ghost use Rattle.base.specs.Bytes.{leBytes};
 ghost use Rattle.signaling.specs.Answer.{command, silence, rejection, parameterRequest, codeAnswer, signalingAnswer, smpAnswer};
 

@@ -1,10 +1,9 @@
 -- `wire::put` meets its contract: two copies, one after the other, are one.
-use Prim.Native.Nat.{_+_}
+use Prim.Native.Nat.{ℕ, _+_}
 use mathlib.Core.Path.{refl, ap, _∙_}
 use native.Mathlib.Omega.{arith}
 use denote.Ref.{now}
 use mathlib.Core.List.{List}
-use Prim.Native.Nat.{ℕ}
 use lib.ListN.{length}
 use Rattle.base.specs.Splice.{splice}
 use Rattle.wire.proofs.WriteLaws.{joined}
