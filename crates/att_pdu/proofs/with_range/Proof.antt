@@ -1,0 +1,25 @@
+-- `att_pdu::with_range` meets its contract: the bytes are those that `lo` and `hi` ensure.
+use Rattle.base.specs.Bytes.{leBytes}
+use borrow.Author.Needs.{needs}
+use Rattle.att_pdu.proofs.with_range.Statement.{statement}
+use Rattle.att_pdu.proofs.with_range.Tie as tie
+
+lo-requires : tie.Need-lo-requires
+lo-requires c κs = search needs
+
+hi-requires : tie.Need-hi-requires
+hi-requires c κs = search needs
+
+lo-requires-2 : tie.Need-lo-requires-2
+lo-requires-2 c κs = search needs
+
+hi-requires-2 : tie.Need-hi-requires-2
+hi-requires-2 c κs = search needs
+
+returns : tie.Need-returns
+unfolding leBytes
+returns c = rw (c .before .before .before .lo .ensures, c .before .before .hi .ensures, c .before .lo2 .ensures, c .hi2 .ensures)
+
+pub with-range-spec : {M : Type 1} → statement M
+with-range-spec =
+    tie.close (tie.spec lo-requires hi-requires lo-requires-2 hi-requires-2 returns)
