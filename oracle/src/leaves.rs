@@ -31,11 +31,20 @@ enum Verdict {
 
 use Verdict::{Alike, Differ, NoRust};
 
+/// Bytes are told in hex and all else in decimal, by what the caller hands over.
 fn differ(rust: impl Debug, port: impl Debug) -> Verdict {
     Differ {
-        rust: format!("{rust:02x?}"),
-        port: format!("{port:02x?}"),
+        rust: format!("{rust:?}"),
+        port: format!("{port:?}"),
     }
+}
+
+fn hex(bytes: &[u8]) -> String {
+    format!("{bytes:02x?}")
+}
+
+fn uuid(told: Option<port::Number>) -> String {
+    told.map_or("none".to_string(), |u| format!("{u:032x}"))
 }
 
 type Check = fn(&Case, &mut rust::Params) -> Verdict;
@@ -122,11 +131,11 @@ const LEAVES: [Leaf; 7] = [
 fn parse(c: &Case, _: &mut rust::Params) -> Verdict {
     let got = port::parse(&c.data);
     let Ok(text) = std::str::from_utf8(&c.data) else {
-        return if got == Ok(None) { NoRust } else { differ("no UTF-8, so no UUID", got) };
+        return if got == Ok(None) { NoRust } else { differ("no UTF-8, so no UUID", got.map(uuid)) };
     };
     let want = rust::parse(text);
     if got != Ok(want) {
-        return differ(want, got);
+        return differ(uuid(want), got.map(uuid));
     }
     Alike(match want {
         Some(_) if c.data.iter().filter(|b| **b != b'-').count() == 4 => 0,
@@ -138,7 +147,7 @@ fn parse(c: &Case, _: &mut rust::Params) -> Verdict {
 fn from_att(c: &Case, _: &mut rust::Params) -> Verdict {
     let (want, got) = (rust::from_att(&c.data), port::from_att(&c.data));
     if got != Ok(want) {
-        return differ(want, got);
+        return differ(uuid(want), got.map(uuid));
     }
     Alike(match (want, c.data.len()) {
         (Some(_), 2) => 0,
@@ -151,15 +160,15 @@ fn to_att(c: &Case, _: &mut rust::Params) -> Verdict {
     let want = rust::to_att(c.uuid);
     let (bytes, len) = match port::to_att(c.uuid) {
         Ok(told) => told,
-        Err(wrong) => return differ(want, wrong),
+        Err(wrong) => return differ(hex(&want), wrong),
     };
     if bytes[..len] != want {
-        return differ(want, &bytes[..len]);
+        return differ(hex(&want), hex(&bytes[..len]));
     }
     // From the bytes the same UUID comes back.
     let back = port::from_att(&want);
     if back != Ok(Some(c.uuid)) {
-        return differ(c.uuid, back);
+        return differ(uuid(Some(c.uuid)), back.map(uuid));
     }
     Alike(usize::from(len != 2))
 }
@@ -192,7 +201,7 @@ fn matched_body(c: &Case, _: &mut rust::Params) -> Verdict {
     let mut out = [0xA5; 256];
     let len = port::listed_body(&c.data, &c.response, c.uuid, &mut out);
     if len != want.len() || out[..len] != *want || out[len..].iter().any(|b| *b != 0xA5) {
-        return differ((data, response, want), (len, &out[..len.min(256)]));
+        return differ((data, response, hex(want)), (len, hex(&out[..len.min(out.len())])));
     }
     Alike(if data {
         0

@@ -2,7 +2,7 @@
 // include/barleyrope.h declares them for C, where a `&[u8]` is a pointer and a length.
 ghost use mathlib.Core.Path.{_≡_};
 ghost use Prim.Native.Nat.{_+_, _*_, _^_};
-ghost use Rattle.advertising.specs.Ad.{listing, listsService, structures};
+ghost use Rattle.advertising.specs.Ad.{listedPlace, listsService};
 ghost use Rattle.collector.specs.Found.{startOf, countOf};
 ghost use Rattle.params.specs.Params.{goodParams};
 use advertising::Place;
@@ -26,8 +26,8 @@ pub extern "C" fn barleyrope_find_service(
     count: &mut usize,
 ) -> bool
     ensures { λ r. ⌜ r ≡ listsService (low + 2 ^ 64 * high) (now («data» .entry)) ⌝ }
-    ensures { λ _. ⌜ now (start .exit) ≡ startOf (listing (low + 2 ^ 64 * high) (structures (now («data» .entry)))) (now (start .entry)) ⌝ }
-    ensures { λ _. ⌜ now (count .exit) ≡ countOf (listing (low + 2 ^ 64 * high) (structures (now («data» .entry)))) (now (count .entry)) ⌝ }
+    ensures { λ _. ⌜ now (start .exit) ≡ startOf (listedPlace (low + 2 ^ 64 * high) (now («data» .entry))) (now (start .entry)) ⌝ }
+    ensures { λ _. ⌜ now (count .exit) ≡ countOf (listedPlace (low + 2 ^ 64 * high) (now («data» .entry))) (now (count .entry)) ⌝ }
 {
     match advertising::search(data, Uuid { low, high }) {
         Place::Body(from, len) => {

@@ -3,9 +3,9 @@ ghost use mathlib.Core.Path.{_≡_};
 ghost use Prim.Native.Nat.{_+_, _*_, _^_};
 ghost use lib.ListN.{length};
 ghost use Rattle.base.specs.Splice.{splice};
-ghost use Rattle.uuid.specs.Value.{attUuid, attBytes, padded};
+ghost use Rattle.uuid.specs.Value.{attUuid, attOf};
 ghost use Rattle.uuid_text.specs.Text.{parseUuid};
-ghost use Rattle.advertising.specs.Ad.{listedBody};
+ghost use Rattle.advertising.specs.Body.{listedBody};
 ghost use Rattle.local_name.specs.Name.{localName};
 ghost use Rattle.collector.specs.Found.{startOf, countOf};
 ghost use Rattle.leaf_exports.specs.Answer.{isUuid, lowOf, highOf, isPlace};
@@ -50,8 +50,8 @@ pub extern "C" fn leaf_from_att(bytes: &[u8], low: &mut u64, high: &mut u64) -> 
 // How many bytes ATT carries for a UUID; they are put at the start of a lent slice, with zeros up to 16.
 #[no_mangle]
 pub extern "C" fn leaf_to_att(low: u64, high: u64, out: &mut [u8]) -> usize
-    ensures { λ r. ⌜ r ≡ length (attBytes (low + 2 ^ 64 * high)) ⌝ }
-    ensures { λ _. ⌜ now (out .exit) ≡ splice (now (out .entry)) 0 (padded 16 (attBytes (low + 2 ^ 64 * high))) 0 16 ⌝ }
+    ensures { λ r. ⌜ r ≡ attOf (low + 2 ^ 64 * high) .len ⌝ }
+    ensures { λ _. ⌜ now (out .exit) ≡ splice (now (out .entry)) 0 (attOf (low + 2 ^ 64 * high) .bytes) 0 16 ⌝ }
 {
     let att = Uuid { low, high }.to_att();
     let bytes = att.bytes;

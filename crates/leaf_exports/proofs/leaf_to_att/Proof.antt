@@ -1,5 +1,7 @@
 -- The bytes copied are those of the UUID.
+use mathlib.Core.Path.{ap}
 use borrow.Author.Needs.{needs}
+use Rattle.uuid.specs.declared.Att.{Att}
 use Rattle.leaf_exports.proofs.Laws.{handed}
 use Rattle.leaf_exports.proofs.leaf_to_att.Statement.{statement}
 use Rattle.leaf_exports.proofs.leaf_to_att.Tie as tie
@@ -19,7 +21,7 @@ same-length c = search needs
 returns : tie.Need-returns
 returns c =
     let att = c .before .before .before .before .before .before .to-att .ensures in
-    (att .0, handed _ _ _ _ 16 (c .before .before .copy-in .ensures) (att .1))
+    (ap (λ (a : Att). a .len) att, handed _ _ _ _ 16 (c .before .before .copy-in .ensures) (ap (λ (a : Att). a .bytes) att))
 
 pub leaf-to-att-spec : {M : Type 1} → statement M
 leaf-to-att-spec =
