@@ -112,7 +112,7 @@ fn searches(seed: u64, keep: fn(&Case) -> bool) -> Vec<Case> {
     cases
 }
 
-/// A head's usual payload: flags, a list and a name; half of them list the service.
+/// A head's usual payload: flags, a list and a name; a quarter of them list the service.
 fn usual(seed: u64) -> Vec<Case> {
     let mut r = Random::new(seed);
     (0..INPUTS)
