@@ -125,10 +125,16 @@ fn tell(t: Tally) {
         return;
     }
     if t.stands == UNKNOWN {
-        line(b"leaf_replay: a row of no known kind begins at byte ", t.at as u64);
+        line(
+            b"leaf_replay: a row of no known kind begins at byte ",
+            t.at as u64,
+        );
         return;
     }
-    line(b"leaf_replay: the list is cut: no whole row at byte ", t.at as u64);
+    line(
+        b"leaf_replay: the list is cut: no whole row at byte ",
+        t.at as u64,
+    );
 }
 
 fn main() {
@@ -139,7 +145,10 @@ fn main() {
         return;
     }
     if !is_list(&list[..n]) {
-        io::write_all(STDOUT_FILENO, b"leaf_replay: this is no list of leaf answers\n");
+        io::write_all(
+            STDOUT_FILENO,
+            b"leaf_replay: this is no list of leaf answers\n",
+        );
         return;
     }
     tell(replay(&list[..n]));

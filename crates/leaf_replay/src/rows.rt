@@ -73,7 +73,10 @@ fn search_row(input: &[u8], answer: &[u8]) -> bool {
     if input.len() < UUID_LEN {
         return false;
     }
-    same_flag(advertising::ad_lists_service(&input[UUID_LEN..], uuid_of(input)), answer)
+    same_flag(
+        advertising::ad_lists_service(&input[UUID_LEN..], uuid_of(input)),
+        answer,
+    )
 }
 
 // 0 for no name; 1, and the name after it.
