@@ -1,0 +1,391 @@
+//! The leaves of the port against the Rust, in one process: `leaves [seed N] [count N]`.
+//!
+//! For each leaf a fixed set (all short inputs, boundaries) and `count` random ones (1,000,000). What is told of the
+//! place of a body or a name is compared with a slow computation, since the Rust does not tell it. The Rust reads UUID text
+//! from a `&str`, so text that is not UTF-8 has no answer there: it is left out of the number tried, and the port has
+//! to say that it is no UUID.
+//! The first difference is shrunk and printed with both answers, and ends the run with status 1. So does a leaf of
+//! which some kind of answer hardly came up, since that would show nothing.
+
+#[path = "leaf/inputs.rs"]
+mod inputs;
+#[path = "leaf/port.rs"]
+mod port;
+#[path = "leaf/rust.rs"]
+mod rust;
+#[path = "leaf/slow.rs"]
+mod slow;
+
+use inputs::{Case, Each, Random};
+use std::fmt::Debug;
+use std::process::exit;
+use std::time::Instant;
+
+enum Verdict {
+    /// Both answer alike, with this kind of answer.
+    Alike(usize),
+    /// The Rust takes no such input.
+    NoRust,
+    Differ { rust: String, port: String },
+}
+
+use Verdict::{Alike, Differ, NoRust};
+
+/// Bytes are told in hex and all else in decimal, by what the caller hands over.
+fn differ(rust: impl Debug, port: impl Debug) -> Verdict {
+    Differ {
+        rust: format!("{rust:?}"),
+        port: format!("{port:?}"),
+    }
+}
+
+fn hex(bytes: &[u8]) -> String {
+    format!("{bytes:02x?}")
+}
+
+fn uuid(told: Option<port::Number>) -> String {
+    told.map_or("none".to_string(), |u| format!("{u:032x}"))
+}
+
+type Check = fn(&Case, &mut rust::Params) -> Verdict;
+
+struct Leaf {
+    name: &'static str,
+    /// The kinds of answer.
+    kinds: &'static [&'static str],
+    /// Which parts of a case are its input.
+    shows: &'static [Part],
+    fixed: fn(Each),
+    random: fn(&mut Random, u64, &mut Case),
+    check: Check,
+}
+
+#[derive(Clone, Copy, PartialEq)]
+enum Part {
+    Text,
+    Data,
+    Response,
+    Uuid,
+    Params,
+}
+
+const LEAVES: [Leaf; 7] = [
+    Leaf {
+        name: "parse",
+        kinds: &["short", "long", "none"],
+        shows: &[Part::Text],
+        fixed: inputs::text_fixed,
+        random: inputs::text,
+        check: parse,
+    },
+    Leaf {
+        name: "from_att",
+        kinds: &["2 bytes", "16 bytes", "none"],
+        shows: &[Part::Data],
+        fixed: inputs::att_fixed,
+        random: inputs::att,
+        check: from_att,
+    },
+    Leaf {
+        name: "to_att",
+        kinds: &["2 bytes", "16 bytes"],
+        shows: &[Part::Uuid],
+        fixed: inputs::uuid_fixed,
+        random: inputs::uuid,
+        check: to_att,
+    },
+    Leaf {
+        name: "search",
+        kinds: &["16-bit list", "32-bit list", "128-bit list", "none"],
+        shows: &[Part::Data, Part::Uuid],
+        fixed: inputs::search_fixed,
+        random: inputs::search,
+        check: search,
+    },
+    Leaf {
+        name: "matched body",
+        kinds: &["of the data", "of the response", "none"],
+        shows: &[Part::Data, Part::Response, Part::Uuid],
+        fixed: inputs::search_fixed,
+        random: inputs::search,
+        check: matched_body,
+    },
+    Leaf {
+        name: "name",
+        kinds: &["a name", "not UTF-8", "none"],
+        shows: &[Part::Data],
+        fixed: inputs::name_fixed,
+        random: inputs::name,
+        check: name,
+    },
+    Leaf {
+        name: "parameters",
+        kinds: &["good", "bad"],
+        shows: &[Part::Params],
+        fixed: inputs::params_fixed,
+        random: inputs::params,
+        check: params,
+    },
+];
+
+fn parse(c: &Case, _: &mut rust::Params) -> Verdict {
+    let got = port::parse(&c.data);
+    let Ok(text) = std::str::from_utf8(&c.data) else {
+        return if got == Ok(None) { NoRust } else { differ("no UTF-8, so no UUID", got.map(uuid)) };
+    };
+    let want = rust::parse(text);
+    if got != Ok(want) {
+        return differ(uuid(want), got.map(uuid));
+    }
+    Alike(match want {
+        Some(_) if c.data.iter().filter(|b| **b != b'-').count() == 4 => 0,
+        Some(_) => 1,
+        None => 2,
+    })
+}
+
+fn from_att(c: &Case, _: &mut rust::Params) -> Verdict {
+    let (want, got) = (rust::from_att(&c.data), port::from_att(&c.data));
+    if got != Ok(want) {
+        return differ(uuid(want), got.map(uuid));
+    }
+    Alike(match (want, c.data.len()) {
+        (Some(_), 2) => 0,
+        (Some(_), _) => 1,
+        (None, _) => 2,
+    })
+}
+
+fn to_att(c: &Case, _: &mut rust::Params) -> Verdict {
+    let want = rust::to_att(c.uuid);
+    let (bytes, len) = match port::to_att(c.uuid) {
+        Ok(told) => told,
+        Err(wrong) => return differ(hex(&want), wrong),
+    };
+    if bytes[..len] != want {
+        return differ(hex(&want), hex(&bytes[..len]));
+    }
+    // From the bytes the same UUID comes back.
+    let back = port::from_att(&want);
+    if back != Ok(Some(c.uuid)) {
+        return differ(uuid(Some(c.uuid)), back.map(uuid));
+    }
+    Alike(usize::from(len != 2))
+}
+
+fn search(c: &Case, _: &mut rust::Params) -> Verdict {
+    let (want, got) = (rust::lists_service(&c.data, c.uuid), port::lists_service(&c.data, c.uuid));
+    if got != want {
+        return differ(want, got);
+    }
+    let listed = slow::listed(&c.data, c.uuid);
+    let (place, found) = (listed.map(|(_, place)| place), port::find_service(&c.data, c.uuid));
+    if found != Ok(place) || want != place.is_some() {
+        return differ((want, place), found);
+    }
+    Alike(match listed.map(|(kind, _)| slow::width(kind)) {
+        Some(2) => 0,
+        Some(4) => 1,
+        Some(_) => 2,
+        None => 3,
+    })
+}
+
+fn matched_body(c: &Case, _: &mut rust::Params) -> Verdict {
+    let (data, response) = (rust::lists_service(&c.data, c.uuid), rust::lists_service(&c.response, c.uuid));
+    let of = if data { &c.data } else { &c.response };
+    let want = match slow::listed(of, c.uuid) {
+        Some((_, (start, count))) => &of[start..start + count],
+        None => &[],
+    };
+    let mut out = [0xA5; 256];
+    let len = port::listed_body(&c.data, &c.response, c.uuid, &mut out);
+    if len != want.len() || out[..len] != *want || out[len..].iter().any(|b| *b != 0xA5) {
+        return differ((data, response, hex(want)), (len, hex(&out[..len.min(out.len())])));
+    }
+    Alike(if data {
+        0
+    } else if response {
+        1
+    } else {
+        2
+    })
+}
+
+fn name(c: &Case, _: &mut rust::Params) -> Verdict {
+    let (want, got) = (rust::local_name(&c.data), port::local_name(&c.data));
+    let place = slow::named(&c.data);
+    let right = match (&want, &got) {
+        (None, Ok(None)) => true,
+        (Some(name), Ok(Some((start, count)))) => place == Some((*start, *count)) && c.data[*start..*start + *count] == *name.as_bytes(),
+        _ => false,
+    };
+    if !right {
+        return differ((want, place), got);
+    }
+    Alike(match (want, place) {
+        (Some(_), _) => 0,
+        (None, Some(_)) => 1,
+        (None, None) => 2,
+    })
+}
+
+fn params(c: &Case, rust: &mut rust::Params) -> Verdict {
+    let (want, got) = (rust.good(c.params()), port::params_good(c.params()));
+    if want != Ok(got) {
+        return differ(want, got);
+    }
+    Alike(usize::from(!got))
+}
+
+// ---- a difference, made small
+
+fn differs(leaf: &Leaf, c: &Case, rust: &mut rust::Params) -> bool {
+    matches!((leaf.check)(c, rust), Differ { .. })
+}
+
+/// Smaller cases than this one: bytes removed, also with a length byte before them lowered; a byte or a half made 0.
+fn smaller(leaf: &Leaf, c: &Case) -> Vec<Case> {
+    let mut all = Vec::new();
+    for response in [false, true] {
+        let bytes = |c: &Case| if response { c.response.clone() } else { c.data.clone() };
+        let with = |b: Vec<u8>| {
+            let mut c = c.clone();
+            *(if response { &mut c.response } else { &mut c.data }) = b;
+            c
+        };
+        let b = bytes(c);
+        for n in [64, 16, 4, 2, 1] {
+            for at in 0..(b.len() + 1).saturating_sub(n) {
+                let mut cut = b.clone();
+                cut.drain(at..at + n);
+                all.push(with(cut.clone()));
+                for len in 0..at {
+                    if usize::from(cut[len]) > n {
+                        let mut lower = cut.clone();
+                        lower[len] -= n as u8;
+                        all.push(with(lower));
+                    }
+                }
+            }
+        }
+        for at in 0..b.len() {
+            for v in [0, b'0', b[at] / 2] {
+                if v < b[at] {
+                    let mut low = b.clone();
+                    low[at] = v;
+                    all.push(with(low));
+                }
+            }
+        }
+    }
+    if leaf.shows.iter().any(|p| matches!(p, Part::Uuid | Part::Params)) {
+        for bit in 0..128 {
+            if c.uuid >> bit & 1 == 1 {
+                all.push(Case {
+                    uuid: c.uuid ^ 1 << bit,
+                    ..c.clone()
+                });
+            }
+        }
+    }
+    all
+}
+
+fn shrunk(leaf: &Leaf, c: &Case, rust: &mut rust::Params) -> Case {
+    let mut c = c.clone();
+    while let Some(s) = smaller(leaf, &c).into_iter().find(|s| differs(leaf, s, rust)) {
+        c = s;
+    }
+    c
+}
+
+fn show(leaf: &Leaf, c: &Case) {
+    for part in leaf.shows {
+        match part {
+            Part::Text => println!("  text        {:?}  {:02x?}", String::from_utf8_lossy(&c.data), c.data),
+            Part::Data => println!("  data        {:02x?}", c.data),
+            Part::Response => println!("  response    {:02x?}", c.response),
+            Part::Uuid => println!("  UUID        {:032x}", c.uuid),
+            Part::Params => println!("  min, max, latency, timeout  {:?}", c.params()),
+        }
+    }
+}
+
+fn report(leaf: &Leaf, c: &Case, rust: &mut rust::Params) -> ! {
+    let small = shrunk(leaf, c, rust);
+    println!("{}: the port differs from the Rust; the smallest input found:", leaf.name);
+    show(leaf, &small);
+    if let Differ { rust, port } = (leaf.check)(&small, rust) {
+        println!("  the Rust    {rust}\n  the port    {port}");
+    }
+    println!("found at:");
+    show(leaf, c);
+    exit(1)
+}
+
+// ---- the run
+
+struct Options {
+    seed: u64,
+    count: u64,
+}
+
+fn options() -> Options {
+    let mut o = Options {
+        seed: 1,
+        count: 1_000_000,
+    };
+    let words: Vec<String> = std::env::args().skip(1).collect();
+    for pair in words.chunks(2) {
+        match (pair[0].as_str(), pair.get(1).and_then(|n| n.parse().ok())) {
+            ("seed", Some(n)) => o.seed = n,
+            ("count", Some(n)) => o.count = n,
+            _ => {
+                eprintln!("usage: leaves [seed N] [count N]");
+                exit(2)
+            }
+        }
+    }
+    o
+}
+
+fn run(leaf: &Leaf, o: &Options) {
+    let began = Instant::now();
+    let mut rust = rust::Params::new();
+    let mut counts = vec![0u64; leaf.kinds.len()];
+    let mut left_out = 0;
+    let mut try_one = |c: &Case| match (leaf.check)(c, &mut rust) {
+        Alike(kind) => counts[kind] += 1,
+        NoRust => left_out += 1,
+        Differ { .. } => report(leaf, c, &mut rust),
+    };
+    (leaf.fixed)(&mut try_one);
+    let mut random = Random::new(o.seed);
+    let mut c = Case::default();
+    for i in 0..o.count {
+        (leaf.random)(&mut random, i, &mut c);
+        try_one(&c);
+    }
+    let kinds: Vec<_> = leaf.kinds.iter().zip(&counts).map(|(k, n)| format!("{k} {n}")).collect();
+    let beside = if left_out > 0 { format!(" ({left_out} texts are not UTF-8)") } else { String::new() };
+    println!(
+        "{:12} {:9} inputs, 0 differences: {}{beside}; {:.1} s",
+        leaf.name,
+        counts.iter().sum::<u64>(),
+        kinds.join(", "),
+        began.elapsed().as_secs_f64()
+    );
+    if let Some(k) = counts.iter().position(|n| *n < o.count / 200) {
+        println!("{}: the answer '{}' hardly came up, so this run shows nothing of it", leaf.name, leaf.kinds[k]);
+        exit(1)
+    }
+}
+
+fn main() {
+    let o = options();
+    println!("leaves: seed {}, {} random inputs each beside the fixed ones", o.seed, o.count);
+    for leaf in &LEAVES {
+        run(leaf, &o);
+    }
+}
