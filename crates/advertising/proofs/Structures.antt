@@ -1,7 +1,7 @@
 -- How the structures of advertising data go on, one at a time, and where each of them lies.
 use Prim.Native.Nat.{ℕ, zero, suc, _+_, _-_, _≤_, _<_}
 use mathlib.Core.Path.{_≡_, refl, ap, _∙_}
-use mathlib.Core.Bool.{Bool, true, false, _&&_, and-false, false≢true}
+use mathlib.Core.Bool.{Bool, true, false, and-false}
 use mathlib.Core.List.{List, [], _∷_}
 use native.Mathlib.Omega.{arith}
 use native.Mathlib.Nat.{add-zero}
@@ -10,6 +10,7 @@ use lib.Seq.{drop-drop, getD-drop, length-take-le}
 use lib.Dec.{ltb}
 use borrow.Author.Tests.{lt-ltb, le-ltb, ltb-true}
 use Rattle.base.specs.Choice.{pick}
+use Rattle.base.proofs.TestLaws.{both}
 use Rattle.advertising.specs.Ad.{Ad, whole, first, reading, structures}
 use Rattle.advertising.proofs.Lists.{part, part-length}
 
@@ -88,10 +89,6 @@ pub record Lies (s : List ℕ) (a : Ad) : Type 0 where
 abbrev pub AllLie : List ℕ → List Ad → Type 0
 AllLie s [] = Unit
 AllLie s (a ∷ more) = Lies s a × AllLie s more
-
-both : (a b : Bool) → (a && b) ≡ true → (a ≡ true) × (b ≡ true)
-both true b h = (refl, h)
-both false b h = absurd (false≢true h)
 
 -- by whether a structure begins at at
 lie-by : (at : ℕ) (s : List ℕ) (more : List Ad) (t : Bool) → whole (drop at s) ≡ t → AllLie s more → AllLie s (pick t (first at (drop at s) ∷ more) [])

@@ -1,3 +1,2 @@
 pub mod Ad
 pub mod Body
-pub mod Samples

@@ -71,3 +71,36 @@ leBytes-split (suc m) n a b h =
     let r : (a + 256 * (256 ^ m * b)) % 256 ≡ a % 256 = omega arith in
     let q : (a + 256 * (256 ^ m * b)) / 256 ≡ a / 256 + 256 ^ m * b = omega arith in
     rw (suc-add m n, x, r, q) (ap (λ (l : List ℕ). a % 256 ∷ l) (leBytes-split m n (a / 256) b (omega arith)))
+
+-- ---- from a number to its bytes, and back
+
+pub length-leBytes : (n v : ℕ) → length (leBytes n v) ≡ n
+unfolding leBytes
+length-leBytes zero v = refl
+length-leBytes (suc n) v = ap suc (length-leBytes n (v / 256))
+
+pub le-leBytes : (n v : ℕ) → v < 256 ^ n → le (leBytes n v) ≡ v
+unfolding le leBytes
+le-leBytes zero v h = omega arith
+le-leBytes (suc n) v h =
+    let p : 256 ^ suc n ≡ 256 ^ n * 256 = pow-suc 256 n in
+    let q : v / 256 < 256 ^ n = omega arith in
+    rw (le-leBytes n (v / 256) q) (omega arith)
+
+pub leBytes-le : (s : List ℕ) → ((i : ℕ) → getD s i 0 < 256) → leBytes (length s) (le s) ≡ s
+unfolding le leBytes
+leBytes-le [] h = refl
+leBytes-le (b ∷ s) h =
+    let b' : b < 256 = h 0 in
+    let r : (b + 256 * le s) % 256 ≡ b = omega arith in
+    let q : (b + 256 * le s) / 256 ≡ le s = omega arith in
+    rw (r, q) (ap (λ (l : List ℕ). b ∷ l) (leBytes-le s (λ i. h (suc i))))
+
+pub le-small : (s : List ℕ) → ((i : ℕ) → getD s i 0 < 256) → le s < 256 ^ length s
+unfolding le
+le-small [] h = omega arith
+le-small (b ∷ s) h =
+    let r = le-small s (λ i. h (suc i)) in
+    let p : 256 ^ suc (length s) ≡ 256 ^ length s * 256 = pow-suc 256 (length s) in
+    let q : b < 256 = h 0 in
+    omega arith

@@ -1,7 +1,7 @@
--- What the test of a place tells.
+-- What tests tell.
 use Prim.Native.Nat.{ℕ, _+_, _-_, _≤_, _<_}
 use mathlib.Core.Path.{_≡_, refl, sym, _∙_}
-use mathlib.Core.Bool.{Bool, true, false}
+use mathlib.Core.Bool.{Bool, true, false, _&&_, and-eq-true-iff}
 use native.Mathlib.Omega.{arith}
 use lib.Dec.{leb}
 use borrow.Author.Tests.{le-leb, lt-leb, leb-true, leb-false}
@@ -21,3 +21,7 @@ fits-yes r len at n e h = leb-true (at + n) len (sym e ∙ h)
 
 pub fits-no : (r : Bool) (len at n : ℕ) → r ≡ leb (at + n) len → r ≡ false → len < at + n
 fits-no r len at n e h = leb-false (at + n) len (sym e ∙ h)
+
+-- two tests in one
+pub both : (a b : Bool) → a && b ≡ true → (a ≡ true) × (b ≡ true)
+both a b e = and-eq-true-iff a b .0 e

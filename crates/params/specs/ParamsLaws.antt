@@ -1,12 +1,13 @@
 -- The rule of numbers is the rule of the specification, in hundredths of a millisecond.
 use Prim.Native.Nat.{ℕ, _+_, _*_, _≤_, _<_}
-use mathlib.Core.Path.{_≡_, refl}
-use mathlib.Core.Bool.{Bool, true, false, _&&_}
+use mathlib.Core.Path.{_≡_}
+use mathlib.Core.Bool.{true}
 use native.Mathlib.Omega.{arith}
 use native.Mathlib.Nat.{mul-left-comm}
 use lib.Dec.{leb}
 use borrow.Author.Tests.{leb-true, ltb-true, le-leb, lt-ltb}
 use Rattle.base.specs.Choice.{within}
+use Rattle.base.proofs.TestLaws.{both}
 use Rattle.params.specs.Params.{intervalInRange, latencyInRange, timeoutInRange, goodParams}
 
 -- hundredths of a millisecond: an interval's unit is 1.25 ms, a timeout's is 10 ms
@@ -27,13 +28,9 @@ pub record Acceptable (min max latency timeout : ℕ) : Type 0 where
   pub timeout-most : timeoutTime timeout ≤ 3200000
   pub outlasts : (1 + latency) * intervalTime max * 2 < timeoutTime timeout
 
-and-both : (a b : Bool) → a && b ≡ true → (a ≡ true) × (b ≡ true)
-and-both true b e = (refl, e)
-and-both false b e = (e, cc)
-
 in-range : (lo hi x : ℕ) → within lo hi x ≡ true → (lo ≤ x) × (x ≤ hi)
 in-range lo hi x e =
-    let (least, most) = and-both (leb lo x) (leb x hi) e in
+    let (least, most) = both (leb lo x) (leb x hi) e in
     (leb-true lo x least, leb-true x hi most)
 
 -- the product of times, as a product of counts
@@ -44,11 +41,11 @@ same-product latency max = rw (mul-left-comm (1 + latency) 125 max) (omega arith
 pub good-is-acceptable : (min max latency timeout : ℕ) → goodParams min max latency timeout ≡ true → Acceptable min max latency timeout
 unfolding goodParams
 good-is-acceptable min max latency timeout e =
-    let (min-in, e₁) = and-both (intervalInRange min) _ e in
-    let (max-in, e₂) = and-both (intervalInRange max) _ e₁ in
-    let (ordered, e₃) = and-both (leb min max) _ e₂ in
-    let (latency-in, e₄) = and-both (latencyInRange latency) _ e₃ in
-    let (timeout-in, long) = and-both (timeoutInRange timeout) _ e₄ in
+    let (min-in, e₁) = both (intervalInRange min) _ e in
+    let (max-in, e₂) = both (intervalInRange max) _ e₁ in
+    let (ordered, e₃) = both (leb min max) _ e₂ in
+    let (latency-in, e₄) = both (latencyInRange latency) _ e₃ in
+    let (timeout-in, long) = both (timeoutInRange timeout) _ e₄ in
     let (min-least, _) = in-range 6 3200 min min-in in
     let (_, max-most) = in-range 6 3200 max max-in in
     let (timeout-least, timeout-most) = in-range 10 3200 timeout timeout-in in
@@ -79,12 +76,3 @@ acceptable-is-good min max latency timeout a =
       le-leb timeout 3200 (omega arith),
       lt-ltb ((1 + latency) * max) (4 * timeout) (omega arith),
     )
-
--- 01's sample rows P6 and P7: a timeout of exactly twice the longest silence is bad, one unit more is good
-pub p6 : (goodParams 6 3200 0 800 ≡ false) × (goodParams 6 3200 0 801 ≡ true)
-unfolding goodParams
-p6 = (refl, refl)
-
-pub p7 : (goodParams 6 6 499 750 ≡ false) × (goodParams 6 6 499 751 ≡ true)
-unfolding goodParams
-p7 = (refl, refl)

@@ -1,30 +1,18 @@
--- What callers cite of the answers, and 01's sample row.
+-- What callers cite of the answers.
 use Prim.Native.Nat.{ℕ, _≤_}
 use mathlib.Core.Path.{_≡_, refl}
 use mathlib.Core.Bool.{Bool, true, false, not, _&&_}
-use mathlib.Core.List.{List, [], _∷_, _++_}
+use mathlib.Core.List.{List, _∷_, _++_}
 use native.Mathlib.Omega.{arith}
 use lib.ListN.{length, getD}
 use lib.Dec.{leb, eqb}
 use Rattle.base.specs.Choice.{pick}
 use Rattle.base.specs.Bytes.{le, leBytes, leAt}
 use Rattle.params.specs.Params.{goodParams}
-use Rattle.wire.specs.Numbers.{cidSignaling}
-use Rattle.wire.specs.Frame.{l2capFrame}
 use Rattle.signaling.specs.declared.Update.the-variants.{To}
 use Rattle.signaling.specs.declared.SignalingAnswer.{SignalingAnswer}
 use Rattle.signaling.specs.Numbers.{parameterUpdateReq, unanswered, among, pairingFailed}
-use Rattle.signaling.specs.Answer.{
-  silence,
-  rejection,
-  parameterRequest,
-  codeAnswer,
-  signalingAnswer,
-  smpRefusal,
-  smpSilence,
-  smpAnswer,
-  signalingPayload,
-}
+use Rattle.signaling.specs.Answer.{silence, rejection, parameterRequest, codeAnswer, signalingAnswer, smpRefusal, smpSilence, smpAnswer}
 
 -- ---- sizes: the bytes that go back are bytes that are there
 
@@ -70,18 +58,12 @@ smp-sized pdu = go (leb 1 (length pdu) && not (eqb (getD pdu 0 0) pairingFailed)
     go true = record { whole = refl; within = omega arith }
     go false = record { whole = refl; within = omega arith }
 
--- ---- 01's sample row P5
+-- ---- 01's sample row P5: beside the frame that goes back, the link layer is told of the longest interval
 
 -- a connection parameter update request, Core Vol 3 Part A 4.20
 abbrev pub parameterPdu : ℕ → ℕ → ℕ → ℕ → ℕ → List ℕ
 parameterPdu id min max latency timeout =
     parameterUpdateReq ∷ id ∷ (leBytes 2 8 ++ (leBytes 2 min ++ (leBytes 2 max ++ (leBytes 2 latency ++ leBytes 2 timeout))))
-
--- id 7, min 6, max 6, latency 0, timeout 10: the frame, and the update
-pub p5 : l2capFrame cidSignaling (signalingPayload (signalingAnswer (parameterPdu 7 6 6 0 10)))
-    ≡ 0x06 ∷ 0x00 ∷ 0x05 ∷ 0x00 ∷ 0x13 ∷ 0x07 ∷ 0x02 ∷ 0x00 ∷ 0x00 ∷ 0x00 ∷ []
-unfolding l2capFrame signalingAnswer codeAnswer goodParams le leBytes leAt
-p5 = refl
 
 pub p5-update : signalingAnswer (parameterPdu 7 6 6 0 10) .update ≡ To 6 0 10
 unfolding signalingAnswer codeAnswer goodParams le leBytes leAt

@@ -10,11 +10,8 @@ use lib.Seq.{drop-cons, drop-drop}
 use lib.Dec.{ltb, leb, eqb, leb·zero}
 use borrow.Author.Tests.{ltb-true, ltb-false, lt-leb, le-leb, eq-eqb, ne-eqb, eqb-true, eqb-false}
 use Rattle.base.specs.Choice.{pick, within}
+use Rattle.base.proofs.TestLaws.{both}
 use Rattle.utf8.specs.Utf8.{Range, ones, twos, threes, fours, begins, some, sequence, runs, utf8}
-
-both : (a b : Bool) → (a && b) ≡ true → (a ≡ true) × (b ≡ true)
-both true b h = (refl, h)
-both false b h = absurd (false≢true h)
 
 -- ---- by index: what stands at a place past the end is 256, which no row has
 

@@ -1,51 +1,16 @@
 -- What follows from the definitions, for the theorems and the proofs of the code.
-use Prim.Native.Nat.{ℕ, zero, suc, _+_, _*_, _/_, _%_, _^_, _<_}
+use Prim.Native.Nat.{ℕ, suc, _+_, _*_, _/_, _%_, _^_, _<_}
 use mathlib.Core.Path.{_≡_, refl, ap, sym, _∙_}
 use mathlib.Core.Bool.{Bool, true, false, false≢true, and-eq-true-iff}
 use mathlib.Core.Logic.{_⊎_, inl, inr}
-use mathlib.Core.List.{List, [], _∷_}
-use native.Mathlib.Nat.{pow-suc, mul-suc, mul-le-mul-left, mod-add-div}
+use native.Mathlib.Nat.{mul-suc, mul-le-mul-left, mod-add-div}
 use native.Mathlib.Omega.{arith}
-use lib.ListN.{length, getD}
 use lib.Dec.{eqb, ltb}
 use lib.Pow.{low, high, split}
 use borrow.Author.Tests.{eqb-true, lt-ltb, ltb-true}
-use Rattle.base.specs.Bytes.{le, leBytes}
+use Rattle.base.specs.Bytes.{leBytes}
 use Rattle.uuid.specs.Value.{baseUuid, num, ofNum, short, isShort, Short, attBytes}
 use Rattle.uuid.specs.declared.Uuid.{Uuid}
-
--- ---- bytes and numbers
-
-pub length-leBytes : (n v : ℕ) → length (leBytes n v) ≡ n
-unfolding leBytes
-length-leBytes zero v = refl
-length-leBytes (suc n) v = ap suc (length-leBytes n (v / 256))
-
-pub le-leBytes : (n v : ℕ) → v < 256 ^ n → le (leBytes n v) ≡ v
-unfolding le leBytes
-le-leBytes zero v h = omega arith
-le-leBytes (suc n) v h =
-    let p : 256 ^ suc n ≡ 256 ^ n * 256 = pow-suc 256 n in
-    let q : v / 256 < 256 ^ n = omega arith in
-    rw (le-leBytes n (v / 256) q) (omega arith)
-
-pub leBytes-le : (s : List ℕ) → ((i : ℕ) → getD s i 0 < 256) → leBytes (length s) (le s) ≡ s
-unfolding le leBytes
-leBytes-le [] h = refl
-leBytes-le (b ∷ s) h =
-    let b' : b < 256 = h 0 in
-    let r : (b + 256 * le s) % 256 ≡ b = omega arith in
-    let q : (b + 256 * le s) / 256 ≡ le s = omega arith in
-    rw (r, q) (ap (λ (l : List ℕ). b ∷ l) (leBytes-le s (λ i. h (suc i))))
-
-pub le-small : (s : List ℕ) → ((i : ℕ) → getD s i 0 < 256) → le s < 256 ^ length s
-unfolding le
-le-small [] h = omega arith
-le-small (b ∷ s) h =
-    let r = le-small s (λ i. h (suc i)) in
-    let p : 256 ^ suc (length s) ≡ 256 ^ length s * 256 = pow-suc 256 (length s) in
-    let q : b < 256 = h 0 in
-    omega arith
 
 -- ---- halves and numbers
 

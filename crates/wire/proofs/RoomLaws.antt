@@ -4,7 +4,7 @@ use mathlib.Core.Path.{_≡_, refl, sym, _∙_}
 use mathlib.Core.Bool.{Bool, true, false, _&&_}
 use lib.Dec.{leb}
 use borrow.Author.Tests.{le-leb, lt-leb, leb-true}
-use Rattle.base.proofs.TestLaws.{fits-less, fits-more}
+use Rattle.base.proofs.TestLaws.{fits-less, fits-more, both}
 
 -- the test of room, as code that knows no sums beyond a usize makes it
 pub room-asked : (len at n : ℕ) → n ≤ 65535 → 4 + n ≤ len → leb at (len - (4 + n)) ≡ (leb n 65535 && leb (at + (4 + n)) len)
@@ -15,10 +15,6 @@ room-small len at n short h = rw (le-leb n 65535 short) (fits-more len at (4 + n
 
 pub room-long : (len at n : ℕ) → 65535 < n → false ≡ (leb n 65535 && leb (at + (4 + n)) len)
 room-long len at n h = rw (lt-leb n 65535 h)
-
-both : (a b : Bool) → a && b ≡ true → (a ≡ true) × (b ≡ true)
-both true b e = (refl, e)
-both false b e = (e, cc)
 
 pub has-room : (x : Bool) (len at n : ℕ) → x ≡ (leb n 65535 && leb (at + (4 + n)) len) → x ≡ true → (n ≤ 65535) × (at + (4 + n) ≤ len)
 has-room x len at n e t =

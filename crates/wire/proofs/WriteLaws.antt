@@ -10,11 +10,12 @@ use borrow.Author.Tests.{le-leb, leb-true}
 use Rattle.base.specs.Choice.{pick}
 use Rattle.base.specs.Bytes.{leBytes}
 use Rattle.base.specs.Splice.{inside, splice}
+use Rattle.base.proofs.ByteLaws.{length-leBytes}
 use Rattle.base.proofs.SpliceLaws.{splice-in, length-splice}
 use Rattle.wire.specs.Numbers.{cidAtt}
 use Rattle.wire.specs.Frame.{l2capFrame, written, room, framed, attPdu, attFramed}
 use Rattle.wire.proofs.RoomLaws.{has-room, has-att-room}
-use Rattle.wire.specs.FrameLaws.{length-leBytes, length-frame, framed-in, framed-off, value-size, pdu-size}
+use Rattle.wire.specs.FrameLaws.{length-frame, framed-in, framed-off, value-size, pdu-size}
 
 -- two copies, one after the other, are one
 pub joined : (out : List ℕ) (at : ℕ) (a v : List ℕ) (from n : ℕ) → at + (length a + n) ≤ length out → from + n ≤ length v

@@ -1,5 +1,5 @@
 -- Laws of frames: what callers that know of room cite.
-use Prim.Native.Nat.{ℕ, zero, suc, _+_, _/_, _≤_, _<_}
+use Prim.Native.Nat.{ℕ, _+_, _≤_, _<_}
 use mathlib.Core.Path.{_≡_, refl, ap, _∙_}
 use mathlib.Core.Bool.{Bool, true, false}
 use mathlib.Core.List.{List, _++_}
@@ -10,14 +10,10 @@ use borrow.Author.Tests.{le-leb, lt-leb}
 use Rattle.base.specs.Choice.{pick}
 use Rattle.base.specs.Bytes.{leBytes}
 use Rattle.base.specs.Splice.{splice}
+use Rattle.base.proofs.ByteLaws.{length-leBytes}
 use Rattle.base.proofs.SpliceLaws.{splice-in, length-splice}
 use Rattle.wire.specs.Numbers.{cidAtt}
 use Rattle.wire.specs.Frame.{l2capFrame, written, room, framed, attPdu, attFramed}
-
-pub length-leBytes : (n v : ℕ) → length (leBytes n v) ≡ n
-unfolding leBytes
-length-leBytes zero v = refl
-length-leBytes (suc n) v = ap suc (length-leBytes n (v / 256))
 
 -- a frame is four bytes longer than its payload
 pub length-frame : (channel : ℕ) (payload : List ℕ) → length (l2capFrame channel payload) ≡ 4 + length payload
