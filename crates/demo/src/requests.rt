@@ -1,0 +1,118 @@
+// Connection parameter requests: judged, with the reason, and answered.
+ghost use mathlib.Core.Path.{_≡_};
+ghost use Prim.Native.Nat.{_<_};
+use crate::say;
+use wire::cid;
+
+pub struct Request {
+    pub min: u16,
+    pub max: u16,
+    pub latency: u16,
+    pub timeout: u16,
+}
+
+// Every request of the demo has this identifier.
+const ID: u8 = 7;
+
+// An interval counts 1.25 ms: so many hundredths of a millisecond.
+const INTERVAL: u64 = 125;
+
+fn milliseconds(hundredths: u64) {
+    say::number(hundredths / 100);
+    match hundredths % 100 {
+        25 => say::text(b".25"),
+        50 => say::text(b".5"),
+        75 => say::text(b".75"),
+        _ => say::text(b""),
+    }
+    say::text(b" ms");
+}
+
+fn wide(v: u16) -> u64
+    ensures { λ r. ⌜ (r ≡ v) × (r < 65536) ⌝ }
+{
+    v as u64
+}
+
+fn tell(r: Request) {
+    say::text(b"  Interval ");
+    milliseconds(INTERVAL * wide(r.min));
+    say::text(b" to ");
+    milliseconds(INTERVAL * wide(r.max));
+    say::text(b", latency ");
+    say::number(wide(r.latency));
+    say::text(b", timeout ");
+    milliseconds(1000 * wide(r.timeout));
+    say::text(b": ");
+}
+
+// Why a request that is bad is bad.
+fn reason(r: Request) {
+    if r.min < 6 {
+        say::line(b"bad, the least interval is below 7.5 ms.");
+    } else if 3200 < r.max {
+        say::line(b"bad, the greatest interval is above 4 s.");
+    } else if r.max < r.min {
+        say::line(b"bad, the least interval is above the greatest.");
+    } else if 499 < r.latency {
+        say::line(b"bad, a head may skip 499 events at most.");
+    } else if r.timeout < 10 {
+        say::line(b"bad, the timeout is below 100 ms.");
+    } else if 3200 < r.timeout {
+        say::line(b"bad, the timeout is above 32 s.");
+    } else {
+        say::text(b"bad, the timeout must be above 2 x ");
+        say::number(1 + wide(r.latency));
+        say::text(b" x ");
+        milliseconds(INTERVAL * wide(r.max));
+        say::line(b".");
+    }
+}
+
+// The request as a payload of the signaling channel (Core Vol 3 Part A 4.20).
+fn payload(r: Request) -> [u8; 12] {
+    [
+        signaling::code::PARAMETER_UPDATE_REQ,
+        ID,
+        8,
+        0,
+        wire::lo(r.min),
+        wire::hi(r.min),
+        wire::lo(r.max),
+        wire::hi(r.max),
+        wire::lo(r.latency),
+        wire::hi(r.latency),
+        wire::lo(r.timeout),
+        wire::hi(r.timeout),
+    ]
+}
+
+// Writes the frame of the first n bytes, and answers its length.
+fn send(out: &mut [u8], payload: &[u8], n: usize) -> usize {
+    if payload.len() < n {
+        return 0;
+    }
+    wire::l2cap(out, 0, cid::SIGNALING, &payload[0..n])
+}
+
+// The frame that goes back.
+fn answer(r: Request) {
+    let request = payload(r);
+    let told = signaling::on_signaling(&request);
+    let bytes = told.bytes;
+    let mut out = [0u8; 16];
+    let sent = send(&mut out, &bytes, told.len);
+    say::text(b"    answered with");
+    say::first(&out, sent);
+    say::line(b"");
+}
+
+pub fn judge(r: Request) {
+    tell(r);
+    if params::params_good(r.min, r.max, r.latency, r.timeout) {
+        say::line(b"good.");
+    } else {
+        reason(r);
+    }
+    answer(r);
+}

@@ -1,0 +1,72 @@
+// Words, numbers and bytes to standard output.
+use libc::STDOUT_FILENO;
+use uuid::Uuid;
+
+pub fn text(s: &[u8]) {
+    io::write_all(STDOUT_FILENO, s);
+}
+
+pub fn line(s: &[u8]) {
+    text(s);
+    text(b"\n");
+}
+
+pub fn number(n: u64) {
+    io::print_decimal(STDOUT_FILENO, n);
+}
+
+fn hex(n: u64, width: usize) {
+    io::print_hex(STDOUT_FILENO, n, width);
+}
+
+// A byte in hex, with a space before it.
+fn byte(b: u8) {
+    text(b" ");
+    hex(b as u64, 2);
+}
+
+// The first n bytes of s in hex.
+pub fn first(s: &[u8], n: usize) {
+    let mut i: usize = 0;
+    while i < n {
+        if s.len() <= i {
+            return;
+        }
+        byte(s[i]);
+        i += 1;
+    }
+}
+
+pub fn bytes(s: &[u8]) {
+    first(s, s.len());
+}
+
+// The part of s from start on, of so many bytes; nothing where it is not there.
+pub fn part(s: &[u8], start: usize, n: usize) {
+    if s.len() < n {
+        return;
+    }
+    if s.len() - n < start {
+        return;
+    }
+    let end = start + n;
+    text(&s[start..end]);
+}
+
+// A 16-bit UUID as its 4 digits, any other as 8-4-4-4-12 digits.
+pub fn uuid(u: Uuid) {
+    let att = u.to_att();
+    if att.len == 2 {
+        hex(u.high / 0x1_0000_0000, 4);
+        return;
+    }
+    hex(u.high / 0x1_0000_0000, 8);
+    text(b"-");
+    hex(u.high / 0x1_0000 % 0x1_0000, 4);
+    text(b"-");
+    hex(u.high % 0x1_0000, 4);
+    text(b"-");
+    hex(u.low / 0x1_0000_0000_0000, 4);
+    text(b"-");
+    hex(u.low % 0x1_0000_0000_0000, 12);
+}
