@@ -58,25 +58,28 @@ const RESPONSE: [u8; 13] = [
 // Flags, and a list whose length says more than is there.
 const DAMAGED: [u8; 7] = [0x02, 0x01, 0x06, 0x05, 0x03, 0x0F, 0x18];
 
-fn advertisement<'a>(data: &'a [u8], response: &'a [u8]) {
-    say::line(b"A bay head advertises.");
-    structures::tell(b"advertising data", data);
-    structures::tell(b"scan response", response);
-    say::line(b"");
-    searches::name(b"advertising data", data);
-    searches::name(b"scan response", response);
+fn services<'a>(data: &'a [u8], response: &'a [u8]) {
     say::line(b"");
     searches::service(b"180F", data, response);
     searches::service(b"6E400001-B5A3-F393-E0A9-E50E24DCCA9E", data, response);
     searches::service(b"FEED", data, response);
+}
+
+fn no_services<'a>(data: &'a [u8], response: &'a [u8]) {
     searches::service(b"1234", data, response);
     searches::service(b"18OF", data, response);
 }
 
+fn advertisement(data: &[u8], response: &[u8]) {
+    say::line(b"A bay head advertises.");
+    structures::tell(b"  Its advertising data, ", data);
+    structures::tell(b"  Its scan response, ", response);
+    searches::names(data, response);
+}
+
 fn damage(data: &[u8]) {
     say::line(b"");
-    say::line(b"A damaged advertisement: nothing is read past the end.");
-    structures::tell(b"advertising data", data);
+    structures::tell(b"A damaged advertisement, ", data);
     searches::service(b"180F", data, data);
 }
 
@@ -120,6 +123,8 @@ fn main() {
     let response = RESPONSE;
     let damaged = DAMAGED;
     advertisement(&data, &response);
+    services(&data, &response);
+    no_services(&data, &response);
     damage(&damaged);
     judgements();
 }

@@ -17,13 +17,13 @@ const ID: u8 = 7;
 // An interval counts 1.25 ms: so many hundredths of a millisecond.
 const INTERVAL: u64 = 125;
 
+// A timeout counts 10 ms.
+const TIMEOUT: u64 = 1000;
+
 fn milliseconds(hundredths: u64) {
     say::number(hundredths / 100);
-    match hundredths % 100 {
-        25 => say::text(b".25"),
-        50 => say::text(b".5"),
-        75 => say::text(b".75"),
-        _ => say::text(b""),
+    if hundredths % 100 != 0 {
+        say::told(b".", hundredths % 100, b"");
     }
     say::text(b" ms");
 }
@@ -39,33 +39,38 @@ fn tell(r: Request) {
     milliseconds(INTERVAL * wide(r.min));
     say::text(b" to ");
     milliseconds(INTERVAL * wide(r.max));
-    say::text(b", latency ");
-    say::number(wide(r.latency));
-    say::text(b", timeout ");
-    milliseconds(1000 * wide(r.timeout));
-    say::text(b": ");
+    say::told(b", latency ", wide(r.latency), b", timeout ");
+    milliseconds(TIMEOUT * wide(r.timeout));
+}
+
+// Why intervals that are bad are bad.
+fn interval_reason(r: Request) {
+    if r.max < r.min {
+        say::line(b": bad, the least interval is above the greatest");
+    } else {
+        say::line(b": bad, an interval is 7.5 ms to 4 s");
+    }
+}
+
+// The timeout must hold twice the longest silence.
+fn timeout_reason(r: Request) {
+    say::told(
+        b": bad, the timeout must be 100 ms to 32 s and above 2 x ",
+        1 + wide(r.latency),
+        b" x ",
+    );
+    milliseconds(INTERVAL * wide(r.max));
+    say::line(b"");
 }
 
 // Why a request that is bad is bad.
 fn reason(r: Request) {
-    if r.min < 6 {
-        say::line(b"bad, the least interval is below 7.5 ms.");
-    } else if 3200 < r.max {
-        say::line(b"bad, the greatest interval is above 4 s.");
-    } else if r.max < r.min {
-        say::line(b"bad, the least interval is above the greatest.");
+    if (r.min < 6) | (3200 < r.max) | (r.max < r.min) {
+        interval_reason(r);
     } else if 499 < r.latency {
-        say::line(b"bad, a head may skip 499 events at most.");
-    } else if r.timeout < 10 {
-        say::line(b"bad, the timeout is below 100 ms.");
-    } else if 3200 < r.timeout {
-        say::line(b"bad, the timeout is above 32 s.");
+        say::line(b": bad, a head may skip 499 events at most");
     } else {
-        say::text(b"bad, the timeout must be above 2 x ");
-        say::number(1 + wide(r.latency));
-        say::text(b" x ");
-        milliseconds(INTERVAL * wide(r.max));
-        say::line(b".");
+        timeout_reason(r);
     }
 }
 
@@ -110,7 +115,7 @@ fn answer(r: Request) {
 pub fn judge(r: Request) {
     tell(r);
     if params::params_good(r.min, r.max, r.latency, r.timeout) {
-        say::line(b"good.");
+        say::line(b": good");
     } else {
         reason(r);
     }

@@ -15,6 +15,13 @@ pub fn number(n: u64) {
     io::print_decimal(STDOUT_FILENO, n);
 }
 
+// A number between words.
+pub fn told(before: &[u8], n: u64, after: &[u8]) {
+    text(before);
+    number(n);
+    text(after);
+}
+
 fn hex(n: u64, width: usize) {
     io::print_hex(STDOUT_FILENO, n, width);
 }
@@ -53,6 +60,11 @@ pub fn part(s: &[u8], start: usize, n: usize) {
     text(&s[start..end]);
 }
 
+fn hex_and_dash(n: u64, width: usize) {
+    hex(n, width);
+    text(b"-");
+}
+
 // A 16-bit UUID as its 4 digits, any other as 8-4-4-4-12 digits.
 pub fn uuid(u: Uuid) {
     let att = u.to_att();
@@ -60,13 +72,9 @@ pub fn uuid(u: Uuid) {
         hex(u.high / 0x1_0000_0000, 4);
         return;
     }
-    hex(u.high / 0x1_0000_0000, 8);
-    text(b"-");
-    hex(u.high / 0x1_0000 % 0x1_0000, 4);
-    text(b"-");
-    hex(u.high % 0x1_0000, 4);
-    text(b"-");
-    hex(u.low / 0x1_0000_0000_0000, 4);
-    text(b"-");
+    hex_and_dash(u.high / 0x1_0000_0000, 8);
+    hex_and_dash(u.high / 0x1_0000 % 0x1_0000, 4);
+    hex_and_dash(u.high % 0x1_0000, 4);
+    hex_and_dash(u.low / 0x1_0000_0000_0000, 4);
     hex(u.low % 0x1_0000_0000_0000, 12);
 }

@@ -3,26 +3,7 @@ use crate::say;
 use uuid::Read;
 use uuid::Uuid;
 
-// What a kind of structure is called (Core Supplement Part A).
-fn tell_kind(kind: u8) {
-    match kind {
-        0x01 => say::text(b"flags"),
-        0x02 => say::text(b"incomplete list of 16-bit services"),
-        0x03 => say::text(b"complete list of 16-bit services"),
-        0x04 => say::text(b"incomplete list of 32-bit services"),
-        0x05 => say::text(b"complete list of 32-bit services"),
-        0x06 => say::text(b"incomplete list of 128-bit services"),
-        0x07 => say::text(b"complete list of 128-bit services"),
-        0x08 => say::text(b"shortened local name"),
-        0x09 => say::text(b"complete local name"),
-        0x0A => say::text(b"transmit power"),
-        0x16 => say::text(b"data of a 16-bit service"),
-        0xFF => say::text(b"data of a maker"),
-        _ => say::text(b"a kind of which this demo knows nothing"),
-    }
-}
-
-// Bytes of each UUID that a structure of the kind lists, or 0.
+// Bytes of each UUID that a structure of the kind lists, or 0 (Core Supplement Part A 1.1).
 fn width_of(kind: u8) -> usize {
     match kind {
         0x02 | 0x03 => 2,
@@ -32,15 +13,47 @@ fn width_of(kind: u8) -> usize {
     }
 }
 
+// Each width has a kind for a list that is incomplete, and after it one for a complete list.
+fn tell_list(kind: u8, width: usize) {
+    if kind % 2 == 0 {
+        say::text(b"in");
+    }
+    if width <= 16 {
+        say::told(b"complete list of ", 8 * (width as u64), b"-bit services,");
+    }
+}
+
+fn tell_other(kind: u8) {
+    match kind {
+        0x01 => say::text(b"flags,"),
+        0x08 => say::text(b"shortened local name,"),
+        0x09 => say::text(b"complete local name,"),
+        _ => say::told(b"kind ", kind as u64, b","),
+    }
+}
+
+// What a structure of this kind is called.
+fn tell_kind(kind: u8) {
+    let width = width_of(kind);
+    if width == 0 {
+        tell_other(kind);
+    } else {
+        tell_list(kind, width);
+    }
+}
+
+fn uuid_of(entry: &[u8]) -> Read {
+    if entry.len() == 4 {
+        return Read::Is(Uuid::from_u32(base::le32(entry, 0)));
+    }
+    Uuid::from_att(entry)
+}
+
 fn tell_uuid(entry: &[u8]) {
     say::text(b"            service ");
-    if entry.len() == 4 {
-        say::uuid(Uuid::from_u32(base::le32(entry, 0)));
-    } else {
-        match Uuid::from_att(entry) {
-            Read::Is(u) => say::uuid(u),
-            Read::Nothing => say::text(b"?"),
-        }
+    match uuid_of(entry) {
+        Read::Is(u) => say::uuid(u),
+        Read::Nothing => (),
     }
     say::line(b"");
 }
@@ -60,11 +73,8 @@ fn tell_uuids(body: &[u8], width: usize) {
 
 // A structure's kind and body.
 fn tell_one(at: usize, kind: u8, body: &[u8]) {
-    say::text(b"    byte ");
-    say::number(at as u64);
-    say::text(b": ");
+    say::told(b"    byte ", at as u64, b": ");
     tell_kind(kind);
-    say::text(b",");
     say::bytes(body);
     say::line(b"");
     tell_uuids(body, width_of(kind));
@@ -75,9 +85,11 @@ fn tell_end() {
 }
 
 fn tell_overrun(at: usize) {
-    say::text(b"    byte ");
-    say::number(at as u64);
-    say::line(b": the length runs past the end, so the reading stops here");
+    say::told(
+        b"    byte ",
+        at as u64,
+        b": the length runs past the end, so the reading stops here\n",
+    );
 }
 
 fn tell_all(data: &[u8]) {
@@ -100,10 +112,6 @@ fn tell_all(data: &[u8]) {
 }
 
 pub fn tell(what: &[u8], data: &[u8]) {
-    say::text(b"  Its ");
-    say::text(what);
-    say::text(b", ");
-    say::number(data.len() as u64);
-    say::line(b" bytes:");
+    say::told(what, data.len() as u64, b" bytes:\n");
     tell_all(data);
 }
