@@ -10,13 +10,13 @@ use native.Mathlib.Nat.{div-eq-of-lt, div-eq-sub-div}
 use lib.ListN.{length, take, drop, length-drop}
 use lib.Seq.{drop-drop, take-take, take-add, drop-at, length-take-le}
 use lib.Dec.{eqb}
-use Rattle.base.specs.Choice.{pick, within}
+use Rattle.base.specs.Choice.{pick, within, among}
 use Rattle.base.specs.Bytes.{leAt}
 use Rattle.base.proofs.ByteLaws.{leAt-in}
 use Rattle.uuid.specs.Value.{num, ofNum, shortOf}
 use Rattle.uuid.specs.declared.Uuid.{Uuid}
 use Rattle.uuid.specs.Laws.{num-of}
-use Rattle.advertising.specs.Ad.{widthOf, IsWidth, chunks, entries, uuidOf, uuids, among}
+use Rattle.advertising.specs.Ad.{widthOf, IsWidth, chunks, entries, uuidOf, uuids}
 
 -- the bytes from index i up to index e
 abbrev pub part : List ℕ → ℕ → ℕ → List ℕ

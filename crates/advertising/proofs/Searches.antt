@@ -7,8 +7,8 @@ use native.Mathlib.Omega.{arith}
 use lib.ListN.{length, take, drop, getD}
 use lib.Dec.{eqb, ltb}
 use borrow.Author.Tests.{lt-ltb, le-ltb}
-use Rattle.base.specs.Choice.{pick}
-use Rattle.advertising.specs.Ad.{Ad, structures, widthOf, uuidOf, uuids, among, lists, anyLists, Found, One, None, listing, placeOf, listedPlace}
+use Rattle.base.specs.Choice.{pick, among}
+use Rattle.advertising.specs.Ad.{Ad, structures, widthOf, uuidOf, uuids, lists, anyLists, Found, One, None, listing, placeOf, listedPlace}
 use Rattle.advertising.specs.declared.Place.{Place}
 use Rattle.advertising.specs.declared.Place.the-variants.{Body, Nothing}
 use Rattle.advertising.proofs.Lists.{part, among-here, among-later, among-stop}

@@ -6,7 +6,7 @@ use mathlib.Core.List.{List, [], _∷_, map}
 use mathlib.Core.Bool.{Bool, false, _&&_, _||_}
 use lib.ListN.{length, getD, take, drop}
 use lib.Dec.{eqb, ltb}
-use Rattle.base.specs.Choice.{pick, within}
+use Rattle.base.specs.Choice.{pick, within, among}
 use Rattle.base.specs.Bytes.{le}
 use Rattle.uuid.specs.Value.{short}
 use Rattle.advertising.specs.declared.Place.{Place}
@@ -62,10 +62,6 @@ uuidOf w e = pick (eqb w 16) (le e) (short (le e))
 
 abbrev pub uuids : ℕ → List ℕ → List ℕ
 uuids w s = map (uuidOf w) (entries w s)
-
-unfoldable pub among : ℕ → List ℕ → Bool
-among u [] = false
-among u (x ∷ xs) = eqb x u || among u xs
 
 -- whether a structure lists the UUID u
 abbrev pub lists : ℕ → Ad → Bool

@@ -1,5 +1,5 @@
 -- Laws of splice and moved: what callers cite.
-use Prim.Native.Nat.{ℕ, zero, suc, _+_, _-_, _≤_, _<_}
+use Prim.Native.Nat.{ℕ, _+_, _-_, _≤_, _<_}
 use mathlib.Core.Path.{_≡_, refl, sym, ap, _∙_}
 use mathlib.Core.Bool.{Bool, true, false, _&&_, _||_}
 use mathlib.Core.List.{List, _++_, append-assoc}
@@ -9,9 +9,9 @@ use native.Mathlib.Omega.{arith}
 use lib.ListN.{length, take, drop, getD, set, length-drop, length-take, List·getD-append}
 use lib.Seq.{paste, paste-zero, paste-suc, length-paste, getD-drop, drop-paste, getD-take}
 use lib.Dec.{leb}
-use borrow.Author.Tests.{le-leb, lt-leb, leb-true, leb-false}
+use borrow.Author.Tests.{le-leb, lt-leb, leb-true}
 use Rattle.base.specs.Choice.{pick}
-use Rattle.base.specs.Splice.{inside, splice, moved}
+use Rattle.base.specs.Splice.{splice, moved}
 
 -- where both have the bytes
 pub splice-in : (d : List ℕ) (at : ℕ) (s : List ℕ) (from n : ℕ) → at + n ≤ length d → from + n ≤ length s

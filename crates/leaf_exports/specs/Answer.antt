@@ -2,7 +2,6 @@ use Prim.Native.Nat.{ℕ}
 use mathlib.Core.Bool.{Bool, true, false}
 use Rattle.advertising.specs.declared.Place.{Place}
 use Rattle.advertising.specs.declared.Place.the-variants.{Body, Nothing}
-use Rattle.uuid.specs.declared.Uuid.{Uuid}
 use Rattle.uuid.specs.declared.Read.{Read}
 use Rattle.uuid.specs.declared.Read.the-variants as read
 

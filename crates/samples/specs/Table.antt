@@ -5,9 +5,10 @@ use mathlib.Core.Path.{_≡_, refl}
 use mathlib.Core.List.{List, [], _∷_}
 use mathlib.Core.Bool.{Bool, true, false, _&&_, not}
 use lib.Dec.{eqb}
+use Rattle.base.specs.Choice.{among}
 use Rattle.base.specs.Bytes.{le, leBytes, leAt}
 use Rattle.uuid.specs.Value.{short}
-use Rattle.advertising.specs.Ad.{listsService, reading, chunks, widthOf, uuidOf, among, anyLists}
+use Rattle.advertising.specs.Ad.{listsService, reading, chunks, widthOf, uuidOf, anyLists}
 use Rattle.params.specs.Params.{goodParams}
 use Rattle.wire.specs.Numbers.{cidSignaling}
 use Rattle.wire.specs.Frame.{l2capFrame}

@@ -4,13 +4,13 @@ use mathlib.Core.Bool.{Bool, not, _&&_}
 use mathlib.Core.List.{List, [], _∷_, _++_}
 use lib.ListN.{length, take, getD}
 use lib.Dec.{leb, eqb}
-use Rattle.base.specs.Choice.{pick}
+use Rattle.base.specs.Choice.{pick, among}
 use Rattle.base.specs.Bytes.{leBytes, leAt}
 use Rattle.params.specs.Params.{goodParams}
 use Rattle.signaling.specs.declared.Update.the-variants.{Nothing, To}
 use Rattle.signaling.specs.declared.SignalingAnswer.{SignalingAnswer}
 use Rattle.signaling.specs.declared.SmpAnswer.{SmpAnswer}
-use Rattle.signaling.specs.Numbers.{commandRejectRsp, parameterUpdateReq, parameterUpdateRsp, unanswered, among, pairingFailed, pairingNotSupported}
+use Rattle.signaling.specs.Numbers.{commandRejectRsp, parameterUpdateReq, parameterUpdateRsp, unanswered, pairingFailed, pairingNotSupported}
 
 -- Part A 4: a code, the identifier of the request, the length of the data, the data
 abbrev pub command : ℕ → ℕ → List ℕ → List ℕ

@@ -6,12 +6,12 @@ use mathlib.Core.List.{List, _∷_, _++_}
 use native.Mathlib.Omega.{arith}
 use lib.ListN.{length, getD}
 use lib.Dec.{leb, eqb}
-use Rattle.base.specs.Choice.{pick}
+use Rattle.base.specs.Choice.{pick, among}
 use Rattle.base.specs.Bytes.{le, leBytes, leAt}
 use Rattle.params.specs.Params.{goodParams}
 use Rattle.signaling.specs.declared.Update.the-variants.{To}
 use Rattle.signaling.specs.declared.SignalingAnswer.{SignalingAnswer}
-use Rattle.signaling.specs.Numbers.{parameterUpdateReq, unanswered, among, pairingFailed}
+use Rattle.signaling.specs.Numbers.{parameterUpdateReq, unanswered, pairingFailed}
 use Rattle.signaling.specs.Answer.{silence, rejection, parameterRequest, codeAnswer, signalingAnswer, smpRefusal, smpSilence, smpAnswer}
 
 -- ---- sizes: the bytes that go back are bytes that are there

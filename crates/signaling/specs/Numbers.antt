@@ -1,8 +1,6 @@
 -- Codes of signaling packets, Core Vol 3 Part A 4, and of the security manager, Part H 3.3.
 use Prim.Native.Nat.{ℕ}
-use mathlib.Core.Bool.{Bool, false, _||_}
 use mathlib.Core.List.{List, [], _∷_}
-use lib.Dec.{eqb}
 
 abbrev pub commandRejectRsp : ℕ
 commandRejectRsp = 0x01
@@ -39,11 +37,6 @@ unanswered =
     ∷ creditConnectionRsp
     ∷ creditReconfigureRsp
     ∷ []
-
--- whether a code is one of a list
-abbrev pub among : ℕ → List ℕ → Bool
-among code [] = false
-among code (x ∷ xs) = eqb code x || among code xs
 
 -- security manager: pairing failed, because pairing is not supported (Part H 3.5.5)
 abbrev pub pairingFailed : ℕ

@@ -1,40 +1,28 @@
 use Rattle.base.proofs.SpliceLaws.{splice-off, splice-void}
-use native.Mathlib.Omega.{arith}
-use mathlib.Core.Path.{sym, _∙_}
+use mathlib.Core.Path.{sym}
 use Rattle.base.proofs.TestLaws.{fits-yes, fits-no}
 use borrow.Author.Needs.{needs}
 use Rattle.base.proofs.copy_in.Statement.{statement}
 use Rattle.base.proofs.copy_in.Tie as tie
-use Rattle.base.proofs.copy_in.Reads as reads
-use Rattle.base.proofs.copy_in.Lts as lts
-use Rattle.base.proofs.copy_known.Reads as copy-known-reads
-use Rattle.base.proofs.is_inside.Reads as is-inside-reads
 
--- src/lib.rt:97:8
 is-inside-requires : tie.Need-is-inside-requires
 is-inside-requires c κs = search needs
 
--- src/lib.rt:98:12
 is-inside-requires-2 : tie.Need-is-inside-requires-2
 is-inside-requires-2 c κs = search needs
 
--- src/lib.rt:99:13
 copy-known-requires : tie.Need-copy-known-requires
 copy-known-requires c κs = (fits-yes _ _ _ _ (c .before .before .before .before .is-inside .ensures) (c .before .before .before .if1 .taken), fits-yes _ _ _ _ (c .before .before .is-inside2 .ensures) (c .before .if2 .taken))
 
--- src/lib.rt:94:1
 same-length : tie.Need-same-length
 same-length c = search needs
 
--- src/lib.rt:94:1
 returns : tie.Need-returns
 returns c = search needs
 
--- src/lib.rt:94:1
 returns-2 : tie.Need-returns-2
 returns-2 c = sym (splice-void _ _ _ _ _ (fits-yes _ _ _ _ (c .before .before .before .is-inside .ensures) (c .before .before .if1 .taken)) (fits-no _ _ _ _ (c .before .is-inside2 .ensures) (c .if2 .left)))
 
--- src/lib.rt:94:1
 returns-3 : tie.Need-returns-3
 returns-3 c = sym (splice-off _ _ _ _ _ (fits-no _ _ _ _ (c .before .is-inside .ensures) (c .if1 .left)))
 

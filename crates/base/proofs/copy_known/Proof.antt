@@ -1,6 +1,5 @@
 -- `base::copy_known` meets its contract.
-use mathlib.Core.Path.{_≡_, sym, ap, _∙_}
-use mathlib.Core.List.{List}
+use mathlib.Core.Path.{_≡_, ap, _∙_}
 use Prim.Native.Nat.{ℕ, _≤_, _-_}
 use native.Mathlib.Omega.{arith}
 use lib.ListN.{length, length-set}
@@ -8,8 +7,6 @@ use Rattle.base.specs.Splice.{splice}
 use Rattle.base.proofs.SpliceLaws.{splice-zero, splice-suc}
 use Rattle.base.proofs.copy_known.Statement.{statement}
 use Rattle.base.proofs.copy_known.Tie as tie
-use Rattle.base.proofs.copy_known.Reads as reads
-use Rattle.base.proofs.copy_known.Lts as lts
 
 abbrev Inv-loop : tie.InvT-loop
 Inv-loop dst₀ at src from n i₀ dst i = (i ≤ n) × (dst ≡ splice dst₀ at src from i) × (length dst ≡ length dst₀)

@@ -6,56 +6,40 @@ use Rattle.base.proofs.TestLaws.{fits-yes, fits-no}
 use borrow.Author.Needs.{needs}
 use Rattle.base.proofs.copy_within.Statement.{statement}
 use Rattle.base.proofs.copy_within.Tie as tie
-use Rattle.base.proofs.copy_within.Reads as reads
-use Rattle.base.proofs.copy_within.Lts as lts
-use Rattle.base.proofs.is_inside.Reads as is-inside-reads
-use Rattle.base.proofs.move_known.Reads as move-known-reads
 
--- src/lib.rt:121:8
 is-inside-requires : tie.Need-is-inside-requires
 is-inside-requires c κs = search needs
 
--- src/lib.rt:122:12
 is-inside-requires-2 : tie.Need-is-inside-requires-2
 is-inside-requires-2 c κs = search needs
 
--- src/lib.rt:124:17
 move-known-requires : tie.Need-move-known-requires
 move-known-requires c κs = (inl (c .before .if3 .taken), (fits-yes _ _ _ _ (c .before .before .before .before .before .is-inside .ensures) (c .before .before .before .before .if1 .taken), fits-yes _ _ _ _ (c .before .before .before .is-inside2 .ensures) (c .before .before .if2 .taken)))
 
--- src/lib.rt:125:28
 sub-if4 : tie.Need-sub-if4
 sub-if4 c = search needs
 
--- src/lib.rt:126:17
 move-known-requires-2 : tie.Need-move-known-requires-2
 move-known-requires-2 c κs = (inr (omega arith), (fits-yes _ _ _ _ (c .before .before .before .before .before .before .is-inside .ensures) (c .before .before .before .before .before .if1 .taken), fits-yes _ _ _ _ (c .before .before .before .before .is-inside2 .ensures) (c .before .before .before .if2 .taken)))
 
--- src/lib.rt:118:1
 same-length : tie.Need-same-length
 same-length c = search needs
 
--- src/lib.rt:118:1
 returns : tie.Need-returns
 returns c = c .before .before .move-known .ensures ∙ sym (moved-down _ _ _ _ (c .before .before .before .before .if3 .taken))
 
--- src/lib.rt:118:1
 same-length-2 : tie.Need-same-length-2
 same-length-2 c = search needs
 
--- src/lib.rt:118:1
 returns-2 : tie.Need-returns-2
 returns-2 c = c .before .before .move-known2 .ensures ∙ sym (moved-apart _ _ _ _ (c .before .before .before .before .before .if3 .left) (omega arith))
 
--- src/lib.rt:118:1
 returns-3 : tie.Need-returns-3
 returns-3 c = sym (moved-over _ _ _ _ (c .before .if3 .left) (omega arith))
 
--- src/lib.rt:118:1
 returns-4 : tie.Need-returns-4
 returns-4 c = sym (moved-void _ _ _ _ (fits-yes _ _ _ _ (c .before .before .before .is-inside .ensures) (c .before .before .if1 .taken)) (fits-no _ _ _ _ (c .before .is-inside2 .ensures) (c .if2 .left)))
 
--- src/lib.rt:118:1
 returns-5 : tie.Need-returns-5
 returns-5 c = sym (moved-off _ _ _ _ (fits-no _ _ _ _ (c .before .is-inside .ensures) (c .if1 .left)))
 

@@ -1,35 +1,25 @@
-use Rattle.base.proofs.ByteLaws.{leAt-in, leAt-off, leAt-two, leAt-split}
+use Rattle.base.proofs.ByteLaws.{leAt-split}
 use native.Mathlib.Omega.{arith}
-use mathlib.Core.Path.{sym}
 use denote.Ref.{now}
 use borrow.Author.Needs.{needs}
 use Rattle.base.proofs.four.Statement.{statement}
 use Rattle.base.proofs.four.Tie as tie
-use Rattle.base.proofs.four.Reads as reads
-use Rattle.base.proofs.four.Lts as lts
-use Rattle.base.proofs.two.Reads as two-reads
 
--- src/lib.rt:38:5
 two-requires : tie.Need-two-requires
 two-requires c κs = search needs
 
--- src/lib.rt:38:36
 add-two : tie.Need-add-two
 add-two c = search needs
 
--- src/lib.rt:38:29
 two-requires-2 : tie.Need-two-requires-2
 two-requires-2 c κs = search needs
 
--- src/lib.rt:38:18
 mul-result : tie.Need-mul-result
 mul-result c = search needs
 
--- src/lib.rt:38:5
 add-result : tie.Need-add-result
 add-result c = search needs
 
--- src/lib.rt:34:1
 returns : tie.Need-returns
 returns c = let a = c .before .before .before .args in
     omega (arith, leAt-split (now (a .s)) (a .at) 2 2 (omega arith))

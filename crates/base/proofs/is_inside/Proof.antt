@@ -1,14 +1,10 @@
-use Rattle.base.proofs.TestLaws.{fits-less, fits-more, fits-yes, fits-no}
+use Rattle.base.proofs.TestLaws.{fits-less, fits-more}
 use Rattle.base.proofs.is_inside.Statement.{statement}
 use Rattle.base.proofs.is_inside.Tie as tie
-use Rattle.base.proofs.is_inside.Reads as reads
-use Rattle.base.proofs.is_inside.Lts as lts
 
--- src/lib.rt:11:1
 returns : tie.Need-returns
 returns c = fits-less _ _ _ (c .if1 .taken)
 
--- src/lib.rt:11:1
 returns-2 : tie.Need-returns-2
 returns-2 c = fits-more _ _ _ (c .if1 .left)
 

@@ -1,15 +1,12 @@
 -- `base::move_known` meets its contract.
-use mathlib.Core.Path.{_≡_, sym, ap, _∙_}
-use mathlib.Core.List.{List}
-use Prim.Native.Nat.{ℕ, _+_, _≤_, _-_}
+use mathlib.Core.Path.{_≡_, ap, _∙_}
+use Prim.Native.Nat.{ℕ, _≤_, _-_}
 use native.Mathlib.Omega.{arith}
 use lib.ListN.{length, length-set}
 use Rattle.base.specs.Splice.{splice}
-use Rattle.base.proofs.SpliceLaws.{splice-zero, splice-suc, getD-splice-past, getD-splice-apart}
+use Rattle.base.proofs.SpliceLaws.{splice-zero, splice-suc, getD-splice-apart}
 use Rattle.base.proofs.move_known.Statement.{statement}
 use Rattle.base.proofs.move_known.Tie as tie
-use Rattle.base.proofs.move_known.Reads as reads
-use Rattle.base.proofs.move_known.Lts as lts
 
 abbrev Inv-loop : tie.InvT-loop
 Inv-loop d₀ at from n i₀ d i = (i ≤ n) × (d ≡ splice d₀ at d₀ from i) × (length d ≡ length d₀)

@@ -1,5 +1,4 @@
 -- Safe, and ends: the turns that are left fall by one with each row.
-use Prim.Native.Nat.{ℕ}
 use native.Mathlib.Omega.{arith}
 use Rattle.leaf_replay.proofs.replay.Statement.{statement}
 use Rattle.leaf_replay.proofs.replay.Tie as tie
