@@ -1,0 +1,4 @@
+pub mod Characteristic
+pub mod Parts
+pub mod Rust
+pub mod Sample

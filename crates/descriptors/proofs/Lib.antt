@@ -1,0 +1,4 @@
+pub mod RangeLaws
+pub mod GiveLaws
+pub mod NamedLaws
+pub mod Keeps

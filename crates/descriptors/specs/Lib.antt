@@ -1,0 +1,3 @@
+pub mod Range
+pub mod Named
+pub mod Sample

@@ -1,0 +1,3 @@
+pub mod CutLaws
+pub mod TableLaws
+pub mod TakenLaws

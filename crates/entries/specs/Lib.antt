@@ -1,0 +1,4 @@
+pub mod Cut
+pub mod Table
+pub mod First
+pub mod Taken

@@ -1,0 +1,2 @@
+pub mod WaitLaws
+pub mod KeepLaws

@@ -1,0 +1,188 @@
+-- Laws for the loops of a wait: over the notifications, and over the bytes that are joined.
+use Prim.Native.Nat.{ℕ, _+_, _≤_, _<_}
+use mathlib.Core.Path.{_≡_, refl, sym, ap, _∙_}
+use mathlib.Core.Bool.{Bool, true, false, _&&_, _||_}
+use mathlib.Core.List.{List, [], _∷_, _++_, append-assoc, append-nil}
+use native.Mathlib.Numerals.{add-one}
+use native.Mathlib.Omega.{arith}
+use lib.ListN.{length, take, drop, getD, length-drop, drop-of-length-le}
+use lib.Seq.{drop-cons, getD-take, getD-drop, length-take-le, take-paste}
+use lib.Dec.{eqb, leb}
+use borrow.Author.Tests.{eq-eqb, ne-eqb, le-leb, lt-leb, leb-true}
+use Rattle.base.specs.Splice.{splice}
+use Rattle.base.proofs.SpliceLaws.{splice-in}
+use Rattle.places.specs.Sizes.{valueSize, notificationAt}
+use Rattle.queues.specs.Blocks.{Valued, place, bytes}
+use Rattle.queues.specs.BlockLaws.{valued-here, valued-end}
+use Rattle.queues.specs.ScanLaws.{all-pass, all-fail, all-end, all-at}
+use Rattle.waits.specs.Kept.{part, heard, valuesFit}
+use Rattle.waits.specs.Wait.{any, seen, starts, contains, passes}
+use Rattle.waits.specs.Joining.{valueOf}
+use Rattle.waits.specs.declared.Notification.{Notification}
+
+-- a record of zeros, as `getD` has it past the end
+abbrev pub none : Notification
+none = record { at = record { 0 = 0 }; handle = 0; len = 0; indication = false }
+
+abbrev fits : Notification → Bool
+fits x = leb (x .len) valueSize
+
+-- the first c places of the array a, at place i
+module _ (a : List Notification) (c i : ℕ) where
+  -- ---- lengths
+
+  pub fit-on : i < c → c ≤ length a → getD a i none .len ≤ valueSize → valuesFit (drop i (take c a)) ≡ valuesFit (drop (i + 1) (take c a))
+  fit-on p q h = all-pass fits a c i none p q (le-leb (getD a i none .len) valueSize h)
+
+  pub fit-not : i < c → c ≤ length a → valueSize < getD a i none .len → valuesFit (drop i (take c a)) ≡ false
+  fit-not p q h = all-fail fits a c i none p q (lt-leb (getD a i none .len) valueSize h)
+
+  pub fit-end : c ≤ i → c ≤ length a → valuesFit (drop i (take c a)) ≡ true
+  fit-end p q = all-end fits a c i p q
+
+  pub fit-at : i < c → c ≤ length a → valuesFit (take c a) ≡ true → getD a i none .len ≤ valueSize
+  fit-at p q e = leb-true (getD a i none .len) valueSize (all-at fits a c i none p q e)
+
+  -- ---- one of the handle
+
+  module _ (h : ℕ) (s : List ℕ) where
+    here : i < c → c ≤ length a → drop i (heard s (take c a)) ≡ record { entry = getD a i none; value = bytes s (place part i) (getD a i none .len) } ∷ drop (i + 1) (heard s (take c a))
+    here p q = valued-here (λ (x : Notification). x .len) part s a c i none p q
+
+    ended : c ≤ i → c ≤ length a → drop i (heard s (take c a)) ≡ []
+    ended p q = valued-end (λ (x : Notification). x .len) part s a c i p q
+
+    pub any-hit : i < c → c ≤ length a → getD a i none .handle ≡ h → any h (drop i (heard s (take c a))) ≡ true
+    unfolding any
+    any-hit p q e = rw (here p q, eq-eqb (getD a i none .handle) h e)
+
+    pub any-pass : i < c → c ≤ length a → (getD a i none .handle ≡ h → ⊥)
+        → any h (drop i (heard s (take c a))) ≡ any h (drop (i + 1) (heard s (take c a)))
+    unfolding any
+    any-pass p q e = rw (here p q, ne-eqb (getD a i none .handle) h e)
+
+    pub any-end : c ≤ i → c ≤ length a → any h (drop i (heard s (take c a))) ≡ false
+    unfolding any
+    any-end p q = ap (any h) (ended p q)
+
+    -- ---- the values joined: x is what was, y what is with one more
+
+    pub join-on : (x y whole : List ℕ) → i < c → c ≤ length a → x ++ seen h (drop i (heard s (take c a))) ≡ whole → y ≡ x ++ valueOf h s i (getD a i none)
+        → y ++ seen h (drop (i + 1) (heard s (take c a))) ≡ whole
+    unfolding seen
+    join-on x y whole p q e f =
+        rw f
+        (append-assoc x (valueOf h s i (getD a i none)) (seen h (drop (i + 1) (heard s (take c a))))
+        ∙ ap (λ (l : List (Valued Notification)). x ++ seen h l) (sym (here p q))
+        ∙ e)
+
+    pub join-done : (x whole : List ℕ) → c ≤ i → c ≤ length a → x ++ seen h (drop i (heard s (take c a))) ≡ whole → x ≡ whole
+    unfolding seen
+    join-done x whole p q e =
+        sym (append-nil x) ∙ ap (λ (l : List (Valued Notification)). x ++ seen h l) (sym (ended p q)) ∙ e
+
+-- one value behind the first n bytes of d
+module _ (h : ℕ) (s : List ℕ) (i : ℕ) (x : Notification) (d : List ℕ) (n : ℕ) where
+  join-copy : x .handle ≡ h → n + x .len ≤ length d → place part i + x .len ≤ length s
+      → take (n + x .len) (splice d n s (place part i) (x .len)) ≡ take n d ++ valueOf h s i x
+  join-copy e p g =
+      let w : x .len ≤ length (drop (place part i) s) = simp length-drop (omega arith) in
+      rw (splice-in d n s (place part i) (x .len) p g, eq-eqb (x .handle) h e)
+      (take-paste d n (drop (place part i) s) (x .len) (omega arith) w)
+
+  pub join-copied : (r : List ℕ) (m at : ℕ) → x .handle ≡ h → n + x .len ≤ length d → place part i + x .len ≤ length s
+      → m ≡ x .len → at ≡ notificationAt i → r ≡ splice d n s at m → take (n + m) r ≡ take n d ++ valueOf h s i x
+  join-copied r m at e p g e₁ e₂ e₃ = rw (e₃, e₂, e₁) (join-copy e p g)
+
+  pub join-skip : (x .handle ≡ h → ⊥) → take n d ≡ take n d ++ valueOf h s i x
+  join-skip e = rw (ne-eqb (x .handle) h e) (sym (append-nil (take n d)))
+
+-- ---- search
+
+starts-step : (xs ys : List ℕ) (j k : ℕ) → j < length xs → k < length ys
+    → starts (drop j xs) (drop k ys) ≡ (eqb (getD xs j 0) (getD ys k 0) && starts (drop (j + 1) xs) (drop (k + 1) ys))
+unfolding starts
+starts-step xs ys j k p q = rw (add-one j, add-one k, drop-cons xs j 0 p, drop-cons ys k 0 q)
+
+starts-end : (xs ys : List ℕ) (j k : ℕ) → length xs ≤ j → starts (drop j xs) (drop k ys) ≡ true
+unfolding starts
+starts-end xs ys j k p = ap (λ (l : List ℕ). starts l (drop k ys)) (drop-of-length-le xs {i = j} p)
+
+starts-short : (xs ys : List ℕ) → length ys < length xs → starts xs ys ≡ false
+unfolding starts
+starts-short [] ys h = absurd (omega arith)
+starts-short (x ∷ xs) [] h = refl
+starts-short (x ∷ xs) (y ∷ ys) h = rw (starts-short xs ys (omega arith)) (go (eqb x y))
+  where
+    go : (b : Bool) → (b && false) ≡ false
+    go true = refl
+    go false = refl
+
+contains-short : (xs ys : List ℕ) → length ys < length xs → contains xs ys ≡ false
+unfolding contains
+contains-short xs [] h = starts-short xs [] h
+contains-short xs (y ∷ ys) h = rw (starts-short xs (y ∷ ys) h, contains-short xs ys (omega arith))
+
+contains-step : (xs ys : List ℕ) (k : ℕ) → k < length ys → contains xs (drop k ys) ≡ (starts xs (drop k ys) || contains xs (drop (k + 1) ys))
+unfolding contains
+contains-step xs ys k q = rw (add-one k, drop-cons ys k 0 q)
+
+-- the m bytes of s from at on, and the first n of d
+module _ (d : List ℕ) (n : ℕ) (s : List ℕ) (at m : ℕ) (hd : n ≤ length d) (hs : at + m ≤ length s) where
+  length-needle : length (bytes s at m) ≡ m
+  length-needle = length-take-le m (drop at s) (simp length-drop (omega arith))
+
+  getD-needle : (j : ℕ) → j < m → getD (bytes s at m) j 0 ≡ getD s (at + j) 0
+  getD-needle j h = getD-take m (drop at s) j 0 h ∙ getD-drop at s j 0
+
+  step : (j k : ℕ) → j < m → k + j < n
+      → starts (drop j (bytes s at m)) (drop (k + j) (take n d))
+      ≡ (eqb (getD (bytes s at m) j 0) (getD (take n d) (k + j) 0) && starts (drop (j + 1) (bytes s at m)) (drop (k + j + 1) (take n d)))
+  step j k h g =
+      starts-step (bytes s at m) (take n d) j (k + j) (omega (arith, length-needle)) (omega (arith, length-take-le n d hd))
+
+  pub equal-on : (j k : ℕ) → j < m → k + j < n → getD d (k + j) 0 ≡ getD s (at + j) 0
+      → starts (drop j (bytes s at m)) (drop (k + j) (take n d)) ≡ starts (drop (j + 1) (bytes s at m)) (drop (k + (j + 1)) (take n d))
+  equal-on j k h g e =
+      let z : k + j + 1 ≡ k + (j + 1) = omega arith in
+      step j k h g
+      ∙ ap (λ (t : Bool). t && starts (drop (j + 1) (bytes s at m)) (drop (k + j + 1) (take n d)))
+      (eq-eqb (getD (bytes s at m) j 0) (getD (take n d) (k + j) 0) (getD-needle j h ∙ sym e ∙ sym (getD-take n d (k + j) 0 g)))
+      ∙ ap (λ (x : ℕ). starts (drop (j + 1) (bytes s at m)) (drop x (take n d))) z
+
+  pub equal-off : (j k : ℕ) → j < m → k + j < n → (getD d (k + j) 0 ≡ getD s (at + j) 0 → ⊥)
+      → starts (drop j (bytes s at m)) (drop (k + j) (take n d)) ≡ false
+  equal-off j k h g e =
+      step j k h g
+      ∙ ap (λ (t : Bool). t && starts (drop (j + 1) (bytes s at m)) (drop (k + j + 1) (take n d)))
+      (ne-eqb (getD (bytes s at m) j 0) (getD (take n d) (k + j) 0)
+      (λ x. e (sym (getD-take n d (k + j) 0 g) ∙ sym x ∙ getD-needle j h)))
+
+  pub equal-end : (j k : ℕ) → m ≤ j → starts (drop j (bytes s at m)) (drop (k + j) (take n d)) ≡ true
+  equal-end j k h = starts-end (bytes s at m) (take n d) j (k + j) (omega (arith, length-needle))
+
+  pub find-by : (k : ℕ) → k < n → (b : Bool) → b ≡ starts (bytes s at m) (drop k (take n d))
+      → contains (bytes s at m) (drop k (take n d)) ≡ (b || contains (bytes s at m) (drop (k + 1) (take n d)))
+  find-by k h b e =
+      contains-step (bytes s at m) (take n d) k (omega (arith, length-take-le n d hd))
+      ∙ ap (λ (x : Bool). x || contains (bytes s at m) (drop (k + 1) (take n d))) (sym e)
+
+  pub find-end : (k : ℕ) → n < k + m → k ≤ n → contains (bytes s at m) (drop k (take n d)) ≡ false
+  find-end k h g =
+      contains-short (bytes s at m) (drop k (take n d)) (rw (length-drop, length-take-le n d hd, length-needle) (omega arith))
+
+-- ---- the two ways of a wait
+
+pub passes-empty : (h : ℕ) (l : List (Valued Notification)) (s : List ℕ) (at m : ℕ) (b : Bool) → m ≡ 0 → b ≡ any h l → b ≡ passes h l (bytes s at m)
+unfolding passes
+passes-empty h l s at m b e f = rw e f
+
+pub passes-some : (h : ℕ) (l : List (Valued Notification)) (s : List ℕ) (at m : ℕ) (joined : List ℕ) (b : Bool) → at + m ≤ length s → (m ≡ 0 → ⊥)
+    → joined ≡ seen h l → b ≡ contains (bytes s at m) joined → b ≡ passes h l (bytes s at m)
+unfolding passes
+passes-some h l s at m joined b g e f k =
+    k ∙ ap (contains (bytes s at m)) f ∙ go (bytes s at m) (omega (arith, length-needle [] 0 s at m (omega arith) g))
+  where
+    go : (needle : List ℕ) → 0 < length needle → contains needle (seen h l) ≡ passes h l needle
+    go [] p = absurd (omega arith)
+    go (x ∷ xs) p = refl

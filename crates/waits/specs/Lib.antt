@@ -1,0 +1,5 @@
+pub mod Kept
+pub mod Wait
+pub mod Joining
+pub mod KeptLaws
+pub mod Sample
