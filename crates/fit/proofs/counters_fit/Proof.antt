@@ -1,0 +1,24 @@
+use Rattle.fit.specs.Parts.{countersFit}
+use borrow.Author.Needs.{needs}
+use Rattle.fit.proofs.counters_fit.Statement.{statement}
+use Rattle.fit.proofs.counters_fit.Tie as tie
+use Rattle.fit.proofs.counters_fit.Reads as reads
+use Rattle.fit.proofs.counters_fit.Lts as lts
+use Rattle.fit.proofs.index_fits.Reads as index-fits-reads
+use Rattle.fit.proofs.long.Reads as long-reads
+
+-- src/lib.rt:259:6
+long-requires : tie.Need-long-requires
+long-requires c κs = search needs
+
+-- src/lib.rt:263:11
+index-fits-requires : tie.Need-index-fits-requires
+index-fits-requires c κs = search needs
+
+-- src/lib.rt:256:1
+returns : tie.Need-returns
+unfolding countersFit
+returns c = rw (c .before .before .before .before .before .long .ensures, c .index-fits .ensures)
+
+pub counters-fit-spec : {M : Type 1} → statement M
+counters-fit-spec = tie.close (tie.spec long-requires index-fits-requires returns)

@@ -1,0 +1,14 @@
+use Rattle.fit.specs.Fit.{countsFit}
+use mathlib.Core.Path.{refl}
+use Rattle.fit.proofs.counts_fit.Statement.{statement}
+use Rattle.fit.proofs.counts_fit.Tie as tie
+use Rattle.fit.proofs.counts_fit.Reads as reads
+use Rattle.fit.proofs.counts_fit.Lts as lts
+
+-- src/lib.rt:232:1
+returns : tie.Need-returns
+unfolding countsFit
+returns c = refl
+
+pub counts-fit-spec : {M : Type 1} → statement M
+counts-fit-spec = tie.close (tie.spec returns)

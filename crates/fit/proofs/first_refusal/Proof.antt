@@ -1,0 +1,29 @@
+use Rattle.fit.specs.Gate.{firstRefusal}
+use borrow.Author.Tests.{not-true, not-false}
+use Rattle.fit.proofs.first_refusal.Statement.{statement}
+use Rattle.fit.proofs.first_refusal.Tie as tie
+use Rattle.fit.proofs.first_refusal.Reads as reads
+use Rattle.fit.proofs.first_refusal.Lts as lts
+
+-- src/lib.rt:377:9
+returns : tie.Need-returns
+unfolding firstRefusal
+returns c = rw (not-true (c .before .args .fit) (c .if1 .taken))
+
+-- src/lib.rt:380:9
+returns-2 : tie.Need-returns-2
+unfolding firstRefusal
+returns-2 c = rw (not-false (c .before .before .args .fit) (c .before .if1 .left), not-true (c .before .before .args .sized) (c .if2 .taken))
+
+-- src/lib.rt:383:9
+returns-3 : tie.Need-returns-3
+unfolding firstRefusal
+returns-3 c = rw (not-false (c .before .before .before .args .fit) (c .before .before .if1 .left), not-false (c .before .before .before .args .sized) (c .before .if2 .left), not-true (c .before .before .before .args .timely) (c .if3 .taken))
+
+-- src/lib.rt:373:1
+returns-4 : tie.Need-returns-4
+unfolding firstRefusal
+returns-4 c = rw (not-false (c .before .before .before .args .fit) (c .before .before .if1 .left), not-false (c .before .before .before .args .sized) (c .before .if2 .left), not-false (c .before .before .before .args .timely) (c .if3 .left))
+
+pub first-refusal-spec : {M : Type 1} → statement M
+first-refusal-spec = tie.close (tie.spec returns returns-2 returns-3 returns-4)

@@ -1,0 +1,25 @@
+use Rattle.fit.specs.Fit.{lastIndex}
+use borrow.Author.Tests.{lt-leb}
+use native.Mathlib.Omega.{arith}
+use mathlib.Core.Path.{sym}
+use Prim.Native.Nat.{_+_}
+use borrow.Author.Needs.{needs}
+use Rattle.fit.proofs.index_fits.Statement.{statement}
+use Rattle.fit.proofs.index_fits.Tie as tie
+use Rattle.fit.proofs.index_fits.Reads as reads
+use Rattle.fit.proofs.index_fits.Lts as lts
+
+-- src/lib.rt:249:9
+returns : tie.Need-returns
+returns c = sym (lt-leb (c .before .args .next + c .before .args .waiting) lastIndex (omega arith))
+
+-- src/lib.rt:252:16
+add-last : tie.Need-add-last
+add-last c = search needs
+
+-- src/lib.rt:245:1
+returns-2 : tie.Need-returns-2
+returns-2 c = search needs
+
+pub index-fits-spec : {M : Type 1} → statement M
+index-fits-spec = tie.close (tie.spec returns add-last returns-2)

@@ -1,0 +1,218 @@
+// The state of a central: its parts, which functions and definitions speak of, and how they lie in `State`.
+use characteristics::Characteristic;
+use characteristics::Characteristics;
+use services::Service;
+use services::Services;
+use time::Micros;
+use time::Millis;
+use uuid::Uuid;
+use waits::Notification;
+use waits::Notifications;
+
+pub mod fresh;
+pub mod parts;
+
+// A device address as a number, low + 2^32 * high, and its type.
+pub struct Address {
+    pub low: u32,
+    pub high: u16,
+    pub random: bool,
+}
+
+pub enum Target {
+    Any,
+    Address(Address),
+    // The first connectable advertiser whose advertising or scan response data lists this service.
+    Service(Uuid),
+}
+
+// A step's value or `contains` is bytes; their number stands beside the step and they stand in the store.
+pub enum Step {
+    Scan {
+        ms: Millis,
+    },
+    // Interval in 1.25 ms, latency in events, timeout in 10 ms.
+    Connect {
+        target: Target,
+        interval: u16,
+        latency: u16,
+        timeout: u16,
+        within_ms: Millis,
+    },
+    ExchangeMtu {
+        mtu: u16,
+    },
+    DiscoverServices,
+    DiscoverCharacteristics {
+        service: Uuid,
+    },
+    Subscribe {
+        characteristic: Uuid,
+        indicate: bool,
+    },
+    Write {
+        characteristic: Uuid,
+        with_response: bool,
+    },
+    Read {
+        characteristic: Uuid,
+    },
+    WaitNotification {
+        characteristic: Uuid,
+        within_ms: Millis,
+    },
+    Wait {
+        ms: Millis,
+    },
+    Disconnect,
+    Capture {
+        enabled: bool,
+    },
+    CaptureSecrets {
+        secrets: bool,
+    },
+}
+
+pub enum StepStatus {
+    Ok,
+    Timeout,
+    NotConnected,
+    NotFound,
+    AttError(u8),
+    TooLong,
+    Disconnected,
+    // A table had no place for what a head told of itself.
+    TableFull,
+}
+
+pub struct Queued {
+    pub step: Step,
+    pub len: u8,
+}
+
+// The waiting steps, the next one first; those from count on are none.
+pub struct Queue {
+    pub kept: [Queued; 64],
+    pub count: usize,
+}
+
+pub struct StepResult {
+    pub index: u32,
+    pub at: Micros,
+    pub status: StepStatus,
+    pub len: u8,
+}
+
+// The newest results, the oldest first; those from count on are none.
+pub struct Results {
+    pub kept: [StepResult; 64],
+    pub count: usize,
+}
+
+// The running step, if it is active; its deadline, if it is dated.
+pub struct Running {
+    pub deadline: Micros,
+    pub step: Step,
+    pub index: u32,
+    pub cursor: u16,
+    pub len: u8,
+    pub phase: u8,
+    pub active: bool,
+    pub dated: bool,
+}
+
+// What a present link is: 01's link record. A pending opcode of 0 is none.
+pub struct Link {
+    pub handle: u16,
+    pub mtu: u16,
+    pub pending: u8,
+    pub terminating: bool,
+}
+
+// The link, if it is present, and how many bytes are held of a frame.
+pub struct Bearer {
+    pub held: usize,
+    pub link: Link,
+    pub present: bool,
+}
+
+pub struct Counters {
+    pub next_index: u32,
+    pub refused_steps: u64,
+    pub notified: u64,
+    pub wait_from: u64,
+}
+
+// What was heard of each advertiser, a place of each array for one: a response of 32 bytes is none.
+pub struct Heard {
+    pub at: [u64; 64],
+    pub channel: [u8; 64],
+    pub pdu: [u8; 64],
+    pub len: [u8; 64],
+    pub response: [u8; 64],
+}
+
+// The reports, the oldest first; those from count on are none.
+pub struct Reports {
+    pub who: [u64; 64],
+    pub heard: Heard,
+    pub count: usize,
+}
+
+// The advertisers that the running scan has asked; those from count on are none.
+pub struct Keys {
+    pub kept: [u64; 128],
+    pub count: usize,
+}
+
+pub struct Counts {
+    pub waiting: usize,
+    pub results: usize,
+    pub services: usize,
+    pub characteristics: usize,
+    pub notifications: usize,
+}
+
+// The layout: arrays apart from their counts, since a call that needs no table then copies none.
+pub struct State {
+    pub waiting: [Queued; 64],
+    pub results: [StepResult; 64],
+    pub services: [Service; 32],
+    pub characteristics: [Characteristic; 64],
+    pub notifications: [Notification; 32],
+    pub counts: Counts,
+    pub counters: Counters,
+    pub bearer: Bearer,
+    pub running: Running,
+    pub who: [u64; 64],
+    pub reports: usize,
+    pub heard: Heard,
+    pub key_count: usize,
+    pub keys: [u64; 128],
+}
+
+// At most one in a call.
+pub enum LinkRequest {
+    Nothing,
+    Update {
+        interval: u16,
+        latency: u16,
+        timeout: u16,
+    },
+    Terminate {
+        reason: u8,
+    },
+}
+
+// What a call has sent so far.
+pub struct Sent {
+    pub frames: usize,
+    pub bytes: usize,
+    pub request: LinkRequest,
+}
+
+// A call's work: the state as it stands, and what was sent on the way.
+pub struct Turn {
+    pub state: State,
+    pub sent: Sent,
+}
