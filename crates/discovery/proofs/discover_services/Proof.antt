@@ -1,0 +1,51 @@
+use Rattle.characteristics.specs.declared.Characteristics.{Characteristics}
+use Rattle.att_pdu.specs.PduLaws.{length-findInformationReq, length-readByTypeReq, length-readByGroupTypeReq}
+use lib.ListN.{length}
+use mathlib.Core.Path.{_≡_, ap, sym, _∙_}
+use native.Mathlib.Omega.{arith}
+use Rattle.discovery.proofs.DiscoveryLaws.{placed-at, asked-thus, may-ask, services-asked, room-seven, done-law, none-left, some-left, past-end, at-zero, within-end}
+use borrow.Author.Needs.{needs}
+use Rattle.discovery.proofs.discover_services.Statement.{statement}
+use Rattle.discovery.proofs.discover_services.Tie as tie
+use Rattle.discovery.proofs.discover_services.Reads as reads
+use Rattle.discovery.proofs.discover_services.Lts as lts
+use Rattle.att_pdu.proofs.read_by_group_type_req.Reads as read-by-group-type-req-reads
+use Rattle.discovery.proofs.ask_from.Reads as ask-from-reads
+use Rattle.turns.proofs.request.Reads as request-reads
+
+-- src/lib.rt:60:15
+read-by-group-type-req-requires : tie.Need-read-by-group-type-req-requires
+read-by-group-type-req-requires c κs = search needs
+
+-- src/lib.rt:61:9
+ask-from-requires : tie.Need-ask-from-requires
+ask-from-requires c κs = search needs
+
+-- src/lib.rt:62:32
+slice-aggregate-request : tie.Need-slice-aggregate-request
+slice-aggregate-request c = search needs
+
+-- src/lib.rt:62:5
+request-requires : tie.Need-request-requires
+request-requires c κs =
+    let l = ap length (c .before .before .before .read-by-group-type-req .ensures) ∙ length-readByGroupTypeReq _ _ _ in
+    (may-ask (c .before .before .before .before .before .args .t) _ _ _ _ _ (c .before .before .ask-from .ensures) (c .before .before .before .before .before .pre) (omega (arith, l)), omega (arith, l))
+
+-- src/lib.rt:56:1
+same-length : tie.Need-same-length
+same-length c = search needs
+
+-- src/lib.rt:56:1
+returns : tie.Need-returns
+returns c = services-asked _ _ _ _ _ _ (asked-thus (c .before .before .before .before .before .before .before .before .args .t) _ _ _ _ _ _ _ _ _ (c .before .before .before .before .before .ask-from .ensures) (c .before .before .before .before .before .before .read-by-group-type-req .ensures) (c .before .before .request .ensures))
+
+pub discover-services-spec : {M : Type 1} → statement M
+discover-services-spec =
+    tie.close
+    (tie.spec
+    read-by-group-type-req-requires
+    ask-from-requires
+    slice-aggregate-request
+    request-requires
+    same-length
+    returns)

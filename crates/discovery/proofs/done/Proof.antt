@@ -1,0 +1,27 @@
+use Rattle.characteristics.specs.declared.Characteristics.{Characteristics}
+use Rattle.att_pdu.specs.PduLaws.{length-findInformationReq, length-readByTypeReq, length-readByGroupTypeReq}
+use lib.ListN.{length}
+use mathlib.Core.Path.{_≡_, ap, sym, _∙_}
+use native.Mathlib.Omega.{arith}
+use Rattle.discovery.proofs.DiscoveryLaws.{placed-at, asked-thus, may-ask, services-asked, room-seven, done-law, none-left, some-left, past-end, at-zero, within-end}
+use borrow.Author.Needs.{needs}
+use Rattle.discovery.proofs.done.Statement.{statement}
+use Rattle.discovery.proofs.done.Tie as tie
+use Rattle.discovery.proofs.done.Reads as reads
+use Rattle.discovery.proofs.done.Lts as lts
+use Rattle.turns.proofs.finish.Reads as finish-reads
+
+-- src/lib.rt:92:9
+finish-requires : tie.Need-finish-requires
+finish-requires c κs = search needs
+
+-- src/lib.rt:86:1
+same-length : tie.Need-same-length
+same-length c = search needs
+
+-- src/lib.rt:86:1
+returns : tie.Need-returns
+returns c = done-law _ _ _ _ _ (c .before .before .finish .ensures)
+
+pub done-spec : {M : Type 1} → statement M
+done-spec = tie.close (tie.spec finish-requires same-length returns)

@@ -1,0 +1,3 @@
+pub mod Nearly
+pub mod Timed
+pub mod Sound

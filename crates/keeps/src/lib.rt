@@ -1,0 +1,1 @@
+// What a call's work keeps between the steps that it begins and ends: definitions and laws.

@@ -1,0 +1,1 @@
+// Fit goes to fit: theorems over the calls' definitions.

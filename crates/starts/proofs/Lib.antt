@@ -1,0 +1,4 @@
+pub mod CheckLaws
+pub mod StartLaws
+pub mod LinkedLaws
+pub mod BeginLaws

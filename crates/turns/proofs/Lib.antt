@@ -1,0 +1,3 @@
+pub mod FinishLaws
+pub mod SendLaws
+pub mod ReadyLaws

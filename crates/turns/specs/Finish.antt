@@ -1,0 +1,58 @@
+-- A step ends: its result is kept, with its value in the store (01, 'Sizes': 64 results, the oldest goes).
+use Prim.Native.Nat.{ℕ}
+use mathlib.Core.Bool.{Bool, true, false}
+use mathlib.Core.List.{List}
+use lib.ListN.{length, take}
+use Rattle.base.specs.Choice.{pick}
+use Rattle.queues.specs.Queue.{pushed, onto}
+use Rattle.queues.specs.Blocks.{Part, stored}
+use Rattle.places.specs.Sizes.{mostResults, resultSize, resultAt}
+use Rattle.time.specs.declared.Micros.{Micros}
+use Rattle.state.specs.Central.{Central, withRunning, withBearer, withResults}
+use Rattle.state.specs.declared.Running.{Running}
+use Rattle.state.specs.declared.Link.{Link}
+use Rattle.state.specs.declared.Bearer.{Bearer}
+use Rattle.state.specs.declared.StepResult.{StepResult}
+use Rattle.state.specs.declared.StepStatus.{StepStatus}
+use Rattle.state.specs.declared.Results.{Results}
+use Rattle.turns.specs.World.{Held, onState}
+
+-- the results' part of the store
+abbrev pub resultPart : Part
+resultPart = record { base = resultAt 0; size = resultSize; most = mostResults }
+
+-- the results that are kept, the oldest first
+abbrev pub kept : Results → List StepResult
+kept rs = take (rs .count) (rs .kept)
+
+-- one result more
+unfoldable pub pushedResult : Results → StepResult → Results
+pushedResult rs r =
+    let l = pushed mostResults (kept rs) r in
+    record { kept = onto (rs .kept) l; count = length l }
+
+-- no step runs
+abbrev pub idle : Running → Running
+idle r = record { deadline = r .deadline; step = r .step; index = r .index; cursor = r .cursor; len = r .len; phase = r .phase; active = false; dated = r .dated }
+
+-- no response is awaited
+abbrev pub answered : Link → Link
+answered l = record { handle = l .handle; mtu = l .mtu; pending = 0; terminating = l .terminating }
+
+abbrev pub withLink : Bearer → Link → Bearer
+withLink b l = record { held = b .held; link = l; present = b .present }
+
+-- the running step's result: the n bytes of the store from `from` on are its value
+unfoldable pub ended : Held → Micros → StepStatus → ℕ → ℕ → Held
+ended h at status from n =
+    let c = h .state in
+    record {
+      state = withResults
+          (withBearer (withRunning c (idle (c .running))) (withLink (c .bearer) (answered (c .bearer .link))))
+          (pushedResult (c .results) (record { index = c .running .index; at = at; status = status; len = n }));
+      store = stored resultPart (c .results .count) (h .store) from n (h .store);
+    }
+
+-- where no step runs, nothing
+unfoldable pub finish : Held → Micros → StepStatus → ℕ → ℕ → Held
+finish h at status from n = pick (h .state .running .active) (ended h at status from n) h

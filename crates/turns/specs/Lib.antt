@@ -1,0 +1,4 @@
+pub mod World
+pub mod Finish
+pub mod Send
+pub mod Ready
