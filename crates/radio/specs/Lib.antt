@@ -1,0 +1,3 @@
+pub mod Radio
+pub mod RadioLaws
+pub mod Keeps

@@ -1,0 +1,39 @@
+use borrow.Author.Needs.{needs}
+use Rattle.views.proofs.answer_in.Statement.{statement}
+use Rattle.views.proofs.answer_in.Tie as tie
+use Rattle.views.proofs.answer_in.Reads as reads
+use Rattle.views.proofs.answer_in.Lts as lts
+use Rattle.views.proofs.span_of.Reads as span-of-reads
+
+-- src/lib.rt:120:29
+enum-told : tie.Need-enum-told
+enum-told c = search needs
+
+-- src/lib.rt:121:26
+enum-told-2 : tie.Need-enum-told-2
+enum-told-2 c = search needs
+
+-- src/lib.rt:122:18
+enum-known-x : tie.Need-enum-known-x
+enum-known-x c = search needs
+
+-- src/lib.rt:124:13
+span-of-requires : tie.Need-span-of-requires
+span-of-requires c κs = search needs
+
+-- src/lib.rt:116:1
+returns : tie.Need-returns
+returns c = rw (c .enum-told .given .1)
+
+-- src/lib.rt:116:1
+returns-2 : tie.Need-returns-2
+returns-2 c = rw (c .enum-told2 .given .1)
+
+-- src/lib.rt:116:1
+returns-3 : tie.Need-returns-3
+returns-3 c = search needs
+
+pub answer-in-spec : {M : Type 1} → statement M
+answer-in-spec =
+    tie.close
+    (tie.spec enum-told enum-told-2 enum-known-x span-of-requires returns returns-2 returns-3)
