@@ -1,0 +1,157 @@
+//! What a run showed, and what it ought to have shown.
+
+use crate::Options;
+use crate::sequence::counts::{Counts, KINDS, STATUSES, seen};
+use crate::sequence::{Groups, Plan};
+use crate::trace::NAMES;
+use std::time::Duration;
+
+const OK: usize = 0;
+const TIMEOUT: usize = 1;
+const NOT_CONNECTED: usize = 2;
+const NOT_FOUND: usize = 3;
+const ATT_ERROR: usize = 4;
+const TOO_LONG: usize = 5;
+const DISCONNECTED: usize = 6;
+
+/// Why a step of this kind never ends with this status, or none where it can (docs/TRACE.md).
+pub fn unreachable(kind: usize, status: usize, groups: Groups) -> Option<&'static str> {
+    let att = (2..=7).contains(&kind);
+    let finds = (4..=8).contains(&kind);
+    let linked = (2..=8).contains(&kind);
+    match status {
+        TIMEOUT if matches!(kind, 0 | 9) => return Some("its deadline ends it Ok"),
+        TIMEOUT if kind == 10 => return Some("it has no deadline"),
+        TIMEOUT if kind >= 11 => return Some("it ends as it starts"),
+        NOT_CONNECTED if matches!(kind, 0 | 1 | 9 | 11 | 12) => return Some("it needs no link"),
+        NOT_FOUND if !finds => return Some("it looks nothing up"),
+        ATT_ERROR if !att => return Some("it sends no request"),
+        TOO_LONG if kind != 6 => return Some("it sends no value"),
+        DISCONNECTED if kind == 10 => return Some("a disconnect ends it Ok"),
+        DISCONNECTED if !linked => return Some("it outlasts the link or ends as it starts"),
+        _ => {}
+    }
+    if groups.link {
+        return None;
+    }
+    // With no fragments the tables stay empty and nothing is answered.
+    match (kind, status) {
+        (2..=8, OK) | (_, ATT_ERROR | TOO_LONG) => Some("no answers without fragments"),
+        (4, NOT_FOUND) => Some("no answers without fragments"),
+        (5..=8, TIMEOUT | DISCONNECTED) => Some("it ends as it starts while the tables are empty"),
+        _ => None,
+    }
+}
+
+/// Cells and limits that should have been reached and were not.
+pub fn empty(c: &Counts, plan: Plan) -> Vec<String> {
+    let groups = plan.groups;
+    let mut out = Vec::new();
+    for (kind, name) in KINDS.iter().enumerate() {
+        for (status, word) in STATUSES.iter().enumerate() {
+            if c.ended[kind][status] == 0 && unreachable(kind, status, groups).is_none() {
+                out.push(format!("{name} ended {word}"));
+            }
+        }
+    }
+    let mut limit = |reached: bool, what: &str| {
+        if !reached {
+            out.push(what.to_string());
+        }
+    };
+    let m = &c.most;
+    limit(m.waiting == 64, "64 waiting steps");
+    limit(m.refused > 0, "a full queue");
+    limit(m.index > 64, "more than 64 results");
+    limit(m.time == 1 << 62, "a step that ends at 2^62");
+    if plan.refusals {
+        limit(c.refused[3] > 0 && c.refused[4] > 0, "refusals 3 and 4");
+        limit(!groups.radio || c.refused[6] > 0 && c.refused[8] > 0, "refusals 6 and 8");
+        limit(!groups.link || c.refused[7] > 0, "refusal 7");
+    }
+    if groups.radio {
+        limit(m.reports == 64 && c.dropped_reports > 0, "more than 64 advertisers");
+        limit(m.keys == 128, "128 scan keys");
+        limit((0..=6).all(|p| c.pdus[p]), "every advertising PDU type");
+    }
+    if groups.link {
+        limit(m.services == 32, "32 services");
+        limit(m.characteristics == 64, "64 characteristics");
+        limit(m.held == 251, "251 held bytes");
+        limit(m.mtu == 247, "MTU 247");
+        limit(m.read == 246, "a read of 246 bytes");
+        limit(m.frames == 65, "65 frames in a call");
+        limit(c.dropped_notifications > 0, "more than 32 notifications");
+        limit(c.old_waits > 0, "a wait that passes on a notification of an earlier link");
+        limit(c.updates > 0, "a parameter update");
+        limit(seen(&c.opcodes) == 256, "every ATT opcode");
+        limit(seen(&c.signals) == 256, "every signaling code");
+        limit(seen(&c.error_codes) == 256, "every ATT error code");
+    }
+    out
+}
+
+pub fn print(o: &Options, c: &Counts, took: Duration) {
+    let calls: u64 = c.calls[1..=10].iter().sum();
+    println!(
+        "seed {}, sequences {}, calls {calls}, dumps {}, {:.1} s",
+        o.plan.seed,
+        c.calls[0],
+        c.calls[11],
+        took.as_secs_f64()
+    );
+    for tag in 1..=10 {
+        print!("{}{} {}", if tag == 1 { "" } else { ", " }, NAMES[tag], c.calls[tag]);
+    }
+    println!("\nnot made, since refused or for want of a table place: {}", c.withheld);
+    if o.plan.refusals {
+        println!("refused: {}", (3..=8).map(|n| format!("{n}: {}", c.refused[n])).collect::<Vec<_>>().join(", "));
+    }
+    println!("\nsteps ended (a dot: can't be):");
+    print!("{:24}", "");
+    for word in STATUSES {
+        print!("{word:>13}");
+    }
+    println!();
+    for (kind, name) in KINDS.iter().enumerate() {
+        print!("{name:24}");
+        for status in 0..STATUSES.len() {
+            let n = c.ended[kind][status];
+            let cell =
+                if n == 0 && unreachable(kind, status, o.plan.groups).is_some() { ".".into() } else { n.to_string() };
+            print!("{cell:>13}");
+        }
+        println!();
+    }
+    let m = &c.most;
+    println!("ended and dropped in one call: {}", c.unseen);
+    println!(
+        "most: waiting {}, steps {}, refused {}, frames in a call {}, bytes {}, reports {}, keys {}, services {}, \
+         characteristics {}, held {}, MTU {}, read {}, notified {}",
+        m.waiting,
+        m.index,
+        m.refused,
+        m.frames,
+        m.written,
+        m.reports,
+        m.keys,
+        m.services,
+        m.characteristics,
+        m.held,
+        m.mtu,
+        m.read,
+        m.notified
+    );
+    println!(
+        "kinds seen: ATT opcodes {}, signaling codes {}, ATT error codes {}, advertising PDU types {}; oldest gone: \
+         reports {}, notifications {}; parameter updates {}; waits passed on an earlier link's notification {}\n",
+        seen(&c.opcodes),
+        seen(&c.signals),
+        seen(&c.error_codes),
+        seen(&c.pdus),
+        c.dropped_reports,
+        c.dropped_notifications,
+        c.updates,
+        c.old_waits
+    );
+}

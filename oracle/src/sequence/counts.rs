@@ -1,0 +1,183 @@
+//! What the sequences showed: calls of each kind, steps ended with each status, limits reached.
+
+use crate::trace::{Call, answer, gate, kind};
+use oracle::ble::central::Central;
+
+pub const KINDS: [&str; 13] = [
+    "Scan",
+    "Connect",
+    "ExchangeMtu",
+    "DiscoverServices",
+    "DiscoverCharacteristics",
+    "Subscribe",
+    "Write",
+    "Read",
+    "WaitNotification",
+    "Wait",
+    "Disconnect",
+    "Capture",
+    "CaptureSecrets",
+];
+pub const STATUSES: [&str; 7] = ["Ok", "Timeout", "NotConnected", "NotFound", "AttError", "TooLong", "Disconnected"];
+
+/// The greatest seen of each.
+#[derive(Default, Clone)]
+pub struct Most {
+    pub waiting: usize,
+    pub frames: usize,
+    pub reports: usize,
+    pub keys: usize,
+    pub services: usize,
+    pub characteristics: usize,
+    pub held: usize,
+    pub mtu: u16,
+    pub read: usize,
+    pub written: usize,
+    pub refused: u64,
+    pub notified: u64,
+    pub index: u32,
+    pub time: u64,
+}
+
+pub struct Counts {
+    pub calls: [u64; 12],
+    /// By step kind and status.
+    pub ended: [[u64; 7]; 13],
+    /// Ended and dropped in the same call.
+    pub unseen: u64,
+    /// Calls refused, by the refusal's number; and not made, since they would be.
+    pub refused: [u64; 9],
+    pub withheld: u64,
+    pub most: Most,
+    /// First bytes of the whole frames that came in on each channel.
+    pub opcodes: [bool; 256],
+    pub signals: [bool; 256],
+    pub error_codes: [bool; 256],
+    pub pdus: [bool; 256],
+    /// Times that the oldest went.
+    pub dropped_reports: u64,
+    pub dropped_notifications: u64,
+    pub updates: u64,
+    /// Waits that passed on notifications of an earlier link alone.
+    pub old_waits: u64,
+    notified_before: u64,
+}
+
+impl Default for Counts {
+    fn default() -> Counts {
+        Counts {
+            calls: [0; 12],
+            ended: [[0; 7]; 13],
+            unseen: 0,
+            refused: [0; 9],
+            withheld: 0,
+            most: Most::default(),
+            opcodes: [false; 256],
+            signals: [false; 256],
+            error_codes: [false; 256],
+            pdus: [false; 256],
+            dropped_reports: 0,
+            dropped_notifications: 0,
+            updates: 0,
+            old_waits: 0,
+            notified_before: 0,
+        }
+    }
+}
+
+pub fn seen(of: &[bool; 256]) -> usize {
+    of.iter().filter(|x| **x).count()
+}
+
+impl Counts {
+    pub fn before(&mut self, c: &Central, call: &Call) {
+        self.calls[usize::from(call.tag())] += 1;
+        match call {
+            Call::Fragment { start, data, .. } => self.heard(c, *start, data),
+            Call::Advertising { pdu, address, random, .. } => {
+                self.pdus[usize::from(*pdu)] = true;
+                let hears = c.running.as_ref().is_some_and(|r| kind(&r.step) <= 1);
+                let known = c.reports.iter().any(|r| r.address == *address && r.random == *random);
+                if hears && c.reports.len() == 64 && !known {
+                    self.dropped_reports += 1;
+                }
+            }
+            _ => {}
+        }
+    }
+
+    /// The frame that a fragment completes.
+    fn heard(&mut self, c: &Central, start: bool, data: &[u8]) {
+        let Some(n) = gate::held(c, start, data.len()) else {
+            return;
+        };
+        self.most.held = self.most.held.max(n);
+        let mut rx = Vec::new();
+        if let (false, Some(l)) = (start, &c.link) {
+            rx.extend_from_slice(&l.rx);
+        }
+        rx.extend_from_slice(data);
+        if rx.len() < 5 {
+            return;
+        }
+        let len = usize::from(rx[0]) | usize::from(rx[1]) << 8;
+        if len == 0 || rx.len() < 4 + len {
+            return;
+        }
+        let code = usize::from(rx[4]);
+        match (rx[2], rx[3]) {
+            (4, 0) => {
+                self.opcodes[code] = true;
+                if matches!(code, 0x1B | 0x1D) && len >= 3 && c.notifications.len() == 32 {
+                    self.dropped_notifications += 1;
+                }
+            }
+            (5, 0) => self.signals[code] = true,
+            _ => {}
+        }
+    }
+
+    pub fn after(&mut self, c: &Central, call: &Call, sent: &answer::Sent, kinds: &[u8], ended: u32) {
+        match call {
+            Call::Fresh => self.notified_before = 0,
+            Call::Connected { .. } => self.notified_before = c.notified,
+            _ => {}
+        }
+        let now = c.next_index - u32::from(c.running.is_some());
+        let mut seen = 0;
+        for r in c.results.iter().rev().take_while(|r| r.index >= ended) {
+            let (status, code) = answer::status(r.status);
+            let kind = usize::from(kinds[r.index as usize]);
+            self.ended[kind][usize::from(status)] += 1;
+            seen += 1;
+            if status == 4 {
+                self.error_codes[usize::from(code)] = true;
+            }
+            if kind == 8 && status == 0 && c.notified == self.notified_before {
+                self.old_waits += 1;
+            }
+            if kind == 7 {
+                self.most.read = self.most.read.max(r.value.len());
+            }
+        }
+        if !matches!(call, Call::Fresh) {
+            self.unseen += u64::from(now - ended) - seen;
+        }
+        let m = &mut self.most;
+        m.waiting = m.waiting.max(c.queue.len());
+        m.frames = m.frames.max(sent.frames.len());
+        m.written = m.written.max(sent.frames.iter().map(Vec::len).sum());
+        m.reports = m.reports.max(c.reports.len());
+        m.keys = m.keys.max(c.running.as_ref().map_or(0, |r| r.scan_requested.len()));
+        m.services = m.services.max(c.services.len());
+        m.characteristics = m.characteristics.max(c.characteristics.len());
+        m.mtu = m.mtu.max(c.link.as_ref().map_or(0, |l| l.mtu));
+        m.refused = m.refused.max(c.refused_steps);
+        m.notified = m.notified.max(c.notified);
+        m.index = m.index.max(c.next_index);
+        m.time = m.time.max(c.results.last().map_or(0, |r| r.at_us));
+        if sent.requests.iter().any(|r| matches!(r, oracle::ble::central::LlRequest::Update { .. })) {
+            self.updates += 1;
+        }
+    }
+}

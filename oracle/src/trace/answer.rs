@@ -1,0 +1,291 @@
+//! Plays a call on the oracle and says what it answered, in the line of docs/TRACE.md.
+
+use super::{Batch, Call, NAMES, gate, kind, value};
+use oracle::ble::central::{AdvAction, Central, LlRequest, Running, Step, StepResult, StepStatus, Target, Uuid};
+
+/// What a call sent.
+#[derive(Default)]
+pub struct Sent {
+    pub frames: Vec<Vec<u8>>,
+    pub requests: Vec<LlRequest>,
+    pub action: Option<AdvAction>,
+}
+
+/// A line under way: words and numbers with one space before each.
+#[derive(Default)]
+pub struct Line(Vec<u8>);
+
+impl Line {
+    fn word(&mut self, w: &str) -> &mut Line {
+        if !self.0.is_empty() {
+            self.0.push(b' ');
+        }
+        self.0.extend_from_slice(w.as_bytes());
+        self
+    }
+
+    fn number(&mut self, n: u64) -> &mut Line {
+        let mut digits = [0u8; 20];
+        let (mut at, mut n) = (20, n);
+        loop {
+            at -= 1;
+            digits[at] = b'0' + (n % 10) as u8;
+            n /= 10;
+            if n == 0 {
+                break;
+            }
+        }
+        self.word(std::str::from_utf8(&digits[at..]).expect("digits"))
+    }
+
+    fn flag(&mut self, f: bool) -> &mut Line {
+        self.number(u64::from(f))
+    }
+
+    fn hex_of<'a>(&mut self, bytes: impl Iterator<Item = &'a u8>) -> &mut Line {
+        const DIGITS: &[u8; 16] = b"0123456789abcdef";
+        self.0.push(b' ');
+        let at = self.0.len();
+        for b in bytes {
+            self.0.push(DIGITS[usize::from(b >> 4)]);
+            self.0.push(DIGITS[usize::from(b & 15)]);
+        }
+        if self.0.len() == at {
+            self.0.push(b'-');
+        }
+        self
+    }
+
+    /// Bytes in their order, after their number.
+    fn bytes(&mut self, bytes: &[u8]) -> &mut Line {
+        self.number(bytes.len() as u64).hex_of(bytes.iter())
+    }
+
+    /// An address or a UUID: the number that the bytes are, least significant first.
+    fn large(&mut self, bytes: &[u8]) -> &mut Line {
+        self.hex_of(bytes.iter().rev())
+    }
+
+    fn uuid(&mut self, u: &Uuid) -> &mut Line {
+        self.large(&u.0)
+    }
+
+    fn option(&mut self, n: Option<u64>) -> &mut Line {
+        match n {
+            None => self.word("none"),
+            Some(n) => self.number(n),
+        }
+    }
+
+    fn sent(&mut self, sent: &Sent) -> &mut Line {
+        let total: usize = sent.frames.iter().map(Vec::len).sum();
+        self.number(sent.frames.len() as u64).number(total as u64);
+        self.hex_of(sent.frames.iter().flatten());
+        assert!(sent.requests.len() <= 1, "more than one link request in a call");
+        match sent.requests.first() {
+            None => self.word("none"),
+            Some(LlRequest::Update { interval, latency, timeout }) => {
+                self.word("update").number(u64::from(*interval)).number(u64::from(*latency)).number(u64::from(*timeout))
+            }
+            Some(LlRequest::Terminate { reason }) => self.word("terminate").number(u64::from(*reason)),
+        }
+    }
+
+    fn action(&mut self, action: AdvAction) -> &mut Line {
+        match action {
+            AdvAction::None => self.word("none"),
+            AdvAction::ScanRequest => self.word("scan"),
+            AdvAction::Connect { interval, latency, timeout } => {
+                self.word("connect").number(u64::from(interval)).number(u64::from(latency)).number(u64::from(timeout))
+            }
+        }
+    }
+
+    fn result(&mut self, r: &StepResult) -> &mut Line {
+        let (status, code) = status(r.status);
+        self.number(u64::from(r.index))
+            .number(r.at_us)
+            .number(u64::from(status))
+            .number(u64::from(code))
+            .bytes(&r.value)
+    }
+
+    fn step(&mut self, step: &Step) -> &mut Line {
+        self.number(u64::from(kind(step)));
+        match step {
+            Step::Scan { ms } | Step::Wait { ms } => self.number(u64::from(*ms)),
+            Step::Connect { target, interval, latency, timeout, within_ms } => {
+                self.number(u64::from(*interval)).number(u64::from(*latency)).number(u64::from(*timeout));
+                self.number(u64::from(*within_ms));
+                match target {
+                    Target::Any => self.word("any"),
+                    Target::Address { address, random } => self.word("address").flag(*random).large(address),
+                    Target::Service(u) => self.word("service").uuid(u),
+                }
+            }
+            Step::ExchangeMtu { mtu } => self.number(u64::from(*mtu)),
+            Step::DiscoverServices | Step::Disconnect => self,
+            Step::DiscoverCharacteristics { service } => self.uuid(service),
+            Step::Subscribe { characteristic, indicate } => self.uuid(characteristic).flag(*indicate),
+            Step::Write { characteristic, with_response, .. } => {
+                self.uuid(characteristic).flag(*with_response).bytes(value(step))
+            }
+            Step::Read { characteristic } => self.uuid(characteristic),
+            Step::WaitNotification { characteristic, within_ms, .. } => {
+                self.uuid(characteristic).number(u64::from(*within_ms)).bytes(value(step))
+            }
+            Step::Capture { enabled } => self.flag(*enabled),
+            Step::CaptureSecrets { secrets } => self.flag(*secrets),
+        }
+    }
+
+    fn running(&mut self, r: &Running) -> &mut Line {
+        self.number(u64::from(r.index)).step(&r.step).option(r.deadline_us);
+        self.number(u64::from(r.phase)).number(u64::from(r.cursor)).number(r.scan_requested.len() as u64);
+        for key in &r.scan_requested {
+            self.number(u64::from(key[0])).large(&key[1..]);
+        }
+        self
+    }
+
+    fn dump(&mut self, c: &Central) -> &mut Line {
+        self.word("next").number(u64::from(c.next_index));
+        self.word("refused_steps").number(c.refused_steps);
+        self.word("notified").number(c.notified).word("wait_from").number(c.wait_from);
+        self.word("link");
+        match &c.link {
+            None => self.word("none"),
+            Some(l) => self
+                .number(u64::from(l.handle))
+                .number(u64::from(l.mtu))
+                .option(l.pending.map(u64::from))
+                .flag(l.terminating)
+                .bytes(&l.rx),
+        };
+        self.word("running");
+        match &c.running {
+            None => self.word("none"),
+            Some(r) => self.running(r),
+        };
+        self.word("waiting").number(c.queue.len() as u64);
+        for step in &c.queue {
+            self.step(step);
+        }
+        self.word("results").number(c.results.len() as u64);
+        for r in &c.results {
+            self.result(r);
+        }
+        self.word("reports").number(c.reports.len() as u64);
+        for r in &c.reports {
+            self.number(r.at_us).number(u64::from(r.channel)).number(u64::from(r.pdu_type));
+            self.flag(r.random).large(&r.address).bytes(&r.data);
+            match &r.scan_response {
+                None => self.word("none"),
+                Some(d) => self.bytes(d),
+            };
+        }
+        self.word("services").number(c.services.len() as u64);
+        for s in &c.services {
+            self.number(u64::from(s.start)).number(u64::from(s.end)).uuid(&s.uuid);
+        }
+        self.word("characteristics").number(c.characteristics.len() as u64);
+        for d in &c.characteristics {
+            self.number(u64::from(d.declaration)).number(u64::from(d.properties)).number(u64::from(d.value_handle));
+            self.uuid(&d.uuid).option(d.cccd.map(u64::from));
+        }
+        self.word("notifications").number(c.notifications.len() as u64);
+        for n in &c.notifications {
+            self.number(n.at_us).number(u64::from(n.handle)).flag(n.indication).bytes(&n.value);
+        }
+        self
+    }
+}
+
+/// A status' number, and the code that an ATT error carries.
+pub fn status(s: StepStatus) -> (u8, u8) {
+    match s {
+        StepStatus::Ok => (0, 0),
+        StepStatus::Timeout => (1, 0),
+        StepStatus::NotConnected => (2, 0),
+        StepStatus::NotFound => (3, 0),
+        StepStatus::AttError(code) => (4, code),
+        StepStatus::TooLong => (5, 0),
+        StepStatus::Disconnected => (6, 0),
+    }
+}
+
+/// A step as a dump has it.
+pub fn step(s: &Step) -> Vec<u8> {
+    let mut line = Line::default();
+    line.step(s);
+    line.0
+}
+
+/// Plays the call, or refuses it as 01 would.
+pub fn judge(c: &mut Central, call: &Call) -> (Vec<u8>, Sent) {
+    let refusal = gate::refusal(c, call);
+    if refusal == 0 || refusal == gate::TABLE_FULL {
+        return play(c, call);
+    }
+    if let (7, Some(link)) = (refusal, c.link.as_mut()) {
+        link.rx.clear();
+    }
+    let mut line = Line::default();
+    line.word(NAMES[usize::from(call.tag())]).number(u64::from(refusal));
+    (line.0, Sent::default())
+}
+
+/// Plays the call and hands back its line, without the line's end, and what it sent.
+pub fn play(c: &mut Central, call: &Call) -> (Vec<u8>, Sent) {
+    let mut sent = Sent::default();
+    match call {
+        Call::Fresh => *c = Central::default(),
+        Call::Batch(Batch { now, steps, .. }) => c.push_steps(steps.clone(), *now),
+        Call::Timer { now } => c.on_timer(*now),
+        Call::Connected { at, handle } => c.on_connected(*handle, *at),
+        Call::Disconnected { at } => c.on_disconnected(*at),
+        Call::Advertising { at, channel, pdu, address, random, to_central, data } => {
+            sent.action = Some(c.on_advertising(*at, *channel, *pdu, *address, *random, data, *to_central));
+        }
+        Call::ScanResponse { at, address, random, data } => c.on_scan_response(*at, *address, *random, data),
+        Call::Fragment { at, start, data } => c.on_fragment(*start, data, *at),
+        Call::TimerUs | Call::ConnectedHandle | Call::Result { .. } | Call::Dump => {}
+    }
+    sent.frames = c.take_frames();
+    sent.requests = c.take_ll_requests();
+    let mut line = Line::default();
+    line.word(NAMES[usize::from(call.tag())]);
+    match call {
+        Call::Fresh => {}
+        Call::Dump => {
+            line.dump(c);
+        }
+        _ => {
+            line.number(0);
+        }
+    }
+    match call {
+        Call::Fresh | Call::Dump | Call::Disconnected { .. } | Call::ScanResponse { .. } => {
+            assert!(sent.frames.is_empty() && sent.requests.is_empty());
+        }
+        Call::Batch(_) | Call::Timer { .. } | Call::Connected { .. } | Call::Fragment { .. } => {
+            line.sent(&sent);
+        }
+        Call::Advertising { .. } => {
+            line.action(sent.action.expect("set above"));
+        }
+        Call::TimerUs => {
+            line.option(c.timer_us());
+        }
+        Call::ConnectedHandle => {
+            line.option(c.connected_handle().map(u64::from));
+        }
+        Call::Result { index } => {
+            match c.result(*index) {
+                None => line.word("none"),
+                Some(r) => line.result(r),
+            };
+        }
+    }
+    (line.0, sent)
+}
