@@ -1,8 +1,11 @@
 //! Spoilt traces: whatever the bytes are, a player answers each record that can be read, says in one line what
-//! can't be, and ends with the status of docs/TRACE.md.
+//! can't be, and ends by itself (docs/TRACE.md). And one trace live: each record is answered before the next is there.
 //!
 //!   spoil PORT [SEED [COUNT]]
 
+#[allow(dead_code)]
+#[path = "compare/port.rs"]
+mod port;
 #[allow(dead_code)]
 mod sequence;
 #[allow(dead_code)]
@@ -15,7 +18,7 @@ use std::io::{Read, Write};
 use std::process::{Command, ExitCode, Stdio};
 use trace::{HEADER, MOST_FRAGMENT, MOST_STEPS, MOST_VALUES, NAMES, STEP};
 
-/// How each line begins, and the status at the end.
+/// How each line begins, and the status that a player ends with if it has one to give; else that is 0.
 fn wanted(bytes: &[u8]) -> (Vec<&'static str>, i32) {
     let (mut from, mut lines) = (bytes, Vec::new());
     loop {
@@ -167,7 +170,8 @@ fn main() -> ExitCode {
         let fits = |(w, g): (&&str, &String)| {
             if w.starts_with("bad") { w == g } else { g.split(' ').next() == Some(w) }
         };
-        if got.len() != wanted.len() || !wanted.iter().zip(&got).all(fits) || ended != Some(status) {
+        if got.len() != wanted.len() || !wanted.iter().zip(&got).all(fits) || ended != Some(0) && ended != Some(status)
+        {
             let _ = std::fs::write("target/spoilt.trace", bytes);
             println!("spoilt trace {i}: {} lines for {}, status {ended:?} for {status}", got.len(), wanted.len());
             println!("  last wanted: {:?}, last: {:?}\nwritten to target/spoilt.trace", wanted.last(), got.last());
@@ -176,5 +180,13 @@ fn main() -> ExitCode {
         lines += got.len();
     }
     println!("spoilt traces {}, lines {lines}: each answered or told", all.len());
+    let (mut live, calls) = (port::Live::new(port), record(plan, count, &mut counts).calls);
+    for (i, call) in calls.iter().enumerate() {
+        if live.ask(call).is_none() {
+            println!("live: record {i} of {} is not answered", calls.len());
+            return ExitCode::FAILURE;
+        }
+    }
+    println!("live records {}: each answered before the next", calls.len());
     ExitCode::SUCCESS
 }
