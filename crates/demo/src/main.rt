@@ -1,7 +1,6 @@
 // The library at work, in plain words: one bay head's advertisement taken apart and searched, and connection parameter
 // requests judged and answered.
 mod requests;
-mod say;
 mod searches;
 mod structures;
 

@@ -1,7 +1,6 @@
 // Connection parameter requests: judged, with the reason, and answered.
 ghost use mathlib.Core.Path.{_≡_};
 ghost use Prim.Native.Nat.{_<_};
-use crate::say;
 use wire::cid;
 
 pub struct Request {

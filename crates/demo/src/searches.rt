@@ -1,5 +1,4 @@
 // The name and the services of an advertisement, as the library finds them.
-use crate::say;
 use advertising::Place;
 use uuid::Read;
 use uuid::Uuid;

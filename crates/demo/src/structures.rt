@@ -1,5 +1,4 @@
 // Advertising data taken apart, structure by structure.
-use crate::say;
 use uuid::Read;
 use uuid::Uuid;
 

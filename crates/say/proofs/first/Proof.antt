@@ -1,8 +1,8 @@
 -- Safe, and ends: the bytes that are left fall by one.
 use Prim.Native.Nat.{_≤_, _-_}
 use borrow.Author.Needs.{needs}
-use Rattle.demo.proofs.say.first.Statement.{statement}
-use Rattle.demo.proofs.say.first.Tie as tie
+use Rattle.say.proofs.first.Statement.{statement}
+use Rattle.say.proofs.first.Tie as tie
 
 abbrev Inv-loop : tie.InvT-loop
 Inv-loop s n i₀ i = i ≤ n

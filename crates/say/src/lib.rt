@@ -22,7 +22,8 @@ pub fn told(before: &[u8], n: u64, after: &[u8]) {
     text(after);
 }
 
-fn hex(n: u64, width: usize) {
+// A number in so many hex digits.
+pub fn hex(n: u64, width: usize) {
     io::print_hex(STDOUT_FILENO, n, width);
 }
 

@@ -1,0 +1,50 @@
+-- Safe, and ends: the places that are left fall by one.
+use Prim.Native.Nat.{_≤_, _-_}
+use borrow.Author.Needs.{needs}
+use Rattle.digest.proofs.tables.of_notifications.Statement.{statement}
+use Rattle.digest.proofs.tables.of_notifications.Tie as tie
+
+abbrev Inv-loop : tie.InvT-loop
+Inv-loop h kept r₀ i₀ r i = i ≤ 32
+
+abbrev μ-loop : tie.MeasureT-loop
+μ-loop h kept r₀ i₀ r i = 32 - i
+
+loop-holds : tie.Need-loop-holds Inv-loop μ-loop
+loop-holds c = search needs
+
+mul-x : tie.Need-mul-x Inv-loop μ-loop
+mul-x c = search needs
+
+array-copy-out-x : tie.Need-array-copy-out-x Inv-loop μ-loop
+array-copy-out-x c = search needs
+
+of-notification-requires : tie.Need-of-notification-requires Inv-loop μ-loop
+of-notification-requires c κs = search needs
+
+add-i : tie.Need-add-i Inv-loop μ-loop
+add-i c = search needs
+
+loop-less : tie.Need-loop-less Inv-loop μ-loop
+loop-less c = search needs
+
+loop-again : tie.Need-loop-again Inv-loop μ-loop
+loop-again c = search needs
+
+returns : tie.Need-returns Inv-loop μ-loop
+returns c = search needs
+
+pub of-notifications-spec : {M : Type 1} → statement M
+of-notifications-spec =
+    tie.close
+    (tie.spec
+    Inv-loop
+    μ-loop
+    loop-holds
+    mul-x
+    array-copy-out-x
+    of-notification-requires
+    add-i
+    loop-less
+    loop-again
+    returns)

@@ -1,0 +1,117 @@
+// One number of a whole state or of lent bytes, for programs that test whether a call left them as they were. What differs in one
+// field alone has another number.
+mod steps;
+mod tables;
+
+use state::Bearer;
+use state::Counters;
+use state::Counts;
+use state::Heard;
+use state::Running;
+use state::State;
+
+// The least prime above 2^32: both halves of a field count in full.
+const PRIME: u64 = 4_294_967_311;
+
+const FACTOR: u64 = 1_000_003;
+
+// 2^32.
+const HALF: u64 = 4_294_967_296;
+
+fn join(h: u64, half: u64) -> u64 {
+    ((h % PRIME) * FACTOR + half % HALF) % PRIME
+}
+
+// The number h with one more field x.
+pub fn more(h: u64, x: u64) -> u64 {
+    join(join(h, x / HALF), x)
+}
+
+pub fn more_of_flag(h: u64, x: bool) -> u64 {
+    if x { more(h, 1) } else { more(h, 0) }
+}
+
+fn of_counts(h: u64, n: Counts) -> u64 {
+    let a = more(h, n.waiting as u64);
+    let b = more(a, n.results as u64);
+    let c = more(b, n.services as u64);
+    let d = more(c, n.characteristics as u64);
+    more(d, n.notifications as u64)
+}
+
+fn of_counters(h: u64, k: Counters) -> u64 {
+    let a = more(h, k.next_index as u64);
+    let b = more(a, k.refused_steps);
+    let c = more(b, k.notified);
+    more(c, k.wait_from)
+}
+
+fn of_bearer(h: u64, b: Bearer) -> u64 {
+    let link = b.link;
+    let c = more(h, b.held as u64);
+    let d = more(c, link.handle as u64);
+    let e = more(d, link.mtu as u64);
+    let f = more(e, link.pending as u64);
+    let g = more_of_flag(f, link.terminating);
+    more_of_flag(g, b.present)
+}
+
+fn of_running(h: u64, r: Running) -> u64 {
+    let deadline = r.deadline;
+    let step = r.step;
+    let a = steps::of_step(more(h, deadline.0), step);
+    let b = more(a, r.index as u64);
+    let c = more(b, r.cursor as u64);
+    let d = more(c, r.len as u64);
+    let e = more(d, r.phase as u64);
+    more_of_flag(more_of_flag(e, r.active), r.dated)
+}
+
+fn of_heard(h: u64, x: Heard) -> u64 {
+    let at = x.at;
+    let channel = x.channel;
+    let pdu = x.pdu;
+    let len = x.len;
+    let response = x.response;
+    let a = tables::of_words(h, at);
+    let b = tables::of_bytes(a, channel);
+    let c = tables::of_bytes(b, pdu);
+    let d = tables::of_bytes(c, len);
+    tables::of_bytes(d, response)
+}
+
+fn of_head(h: u64, s: State) -> u64 {
+    let a = of_counters(of_counts(h, s.counts), s.counters);
+    let b = of_running(of_bearer(a, s.bearer), s.running);
+    more(more(b, s.reports as u64), s.key_count as u64)
+}
+
+fn of_tables(h: u64, s: State) -> u64 {
+    let waiting = s.waiting;
+    let results = s.results;
+    let services = s.services;
+    let characteristics = s.characteristics;
+    let notifications = s.notifications;
+    let a = tables::of_waiting(h, waiting);
+    let b = tables::of_results(a, results);
+    let c = tables::of_services(b, services);
+    let d = tables::of_characteristics(c, characteristics);
+    tables::of_notifications(d, notifications)
+}
+
+fn of_reports(h: u64, s: State) -> u64 {
+    let who = s.who;
+    let heard = s.heard;
+    let keys = s.keys;
+    tables::of_keys(of_heard(tables::of_words(h, who), heard), keys)
+}
+
+// Of every field, dead places too.
+pub fn of_state(s: State) -> u64 {
+    of_reports(of_tables(of_head(1, s), s), s)
+}
+
+// Of lent bytes.
+pub fn of_lent(s: &[u8]) -> u64 {
+    tables::of_slice(1, s)
+}
