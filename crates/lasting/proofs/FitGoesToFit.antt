@@ -39,21 +39,21 @@ use Rattle.events.specs.Events.{timedOut, due, expire, onTimer, linked, isConne
 use Rattle.lasting.specs.Lasting.{Lasting, narrowBatch}
 
 -- the same as facts
-record Kept (c : Central) : Type 0 where
-  fit : Fit c
-  timed : Timed c
+pub record Kept (c : Central) : Type 0 where
+  pub fit : Fit c
+  pub timed : Timed c
 
-kept-of : (c : Central) → Lasting c → Kept c
+pub kept-of : (c : Central) → Lasting c → Kept c
 kept-of c l = let f = fit.fit-of c (l .fit) in record { fit = f; timed = timed-of c f (l .narrow) }
 
-lasts : (c : Central) → Kept c → Lasting c
+pub lasts : (c : Central) → Kept c → Lasting c
 lasts c k = record { fit = fit.of-fit c (k .fit); narrow = narrow-of c (k .timed) }
 
 -- ---- what each call does once its gate is passed
 
 module _ (at : Micros) (time : at .0 ≤ latest) where
   -- the script goes on
-  advances : (w : World) → Sound 65 w → Timed (w .held .state) → Kept (advance w at .held .state)
+  pub advances : (w : World) → Sound 65 w → Timed (w .held .state) → Kept (advance w at .held .state)
   advances w s t = let a = advanced at time w s t in record { fit = a .fit; timed = a .timed }
 
   -- after work on the state and the store

@@ -1,0 +1,2 @@
+pub mod Att
+pub mod Channel

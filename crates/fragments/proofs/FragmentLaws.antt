@@ -1,0 +1,129 @@
+-- What each return of the held bytes and of the gate asks, and what a gate that refuses nothing has shown.
+use Prim.Native.Nat.{ℕ, _+_, _-_, _≤_, _<_}
+use mathlib.Core.Path.{_≡_, refl, sym, ap, _∙_}
+use mathlib.Core.Bool.{Bool, true, false, not, _||_, false≢true}
+use mathlib.Core.List.{List}
+use native.Mathlib.Omega.{arith}
+use lib.ListN.{length}
+use lib.Dec.{eqb, leb}
+use borrow.Author.Tests.{eqb-true, eqb-false, leb-true, eq-eqb, ne-eqb, lt-leb, le-leb, not-true, not-false}
+use Rattle.base.specs.Choice.{pick}
+use Rattle.base.specs.Bytes.{leAt}
+use Rattle.base.specs.Splice.{splice}
+use Rattle.base.proofs.TestLaws.{fits-less, fits-more}
+use Rattle.places.specs.Sizes.{heldAt, frameSize}
+use Rattle.time.specs.declared.Micros.{Micros}
+use Rattle.state.specs.Central.{Central, central, withBearer}
+use Rattle.state.specs.declared.Bearer.{Bearer}
+use Rattle.state.specs.declared.State.{State}
+use Rattle.fit.specs.Fit.{mostNotified}
+use Rattle.fit.specs.Gate.{gate}
+use Rattle.fit.specs.GateLaws.{Passed, passed}
+use Rattle.fit.specs.Refusals.{accepted, counterFull, longFrame}
+use Rattle.turns.specs.World.{Held, held}
+use Rattle.fragments.specs.Fragment.{holding, withHeld, dropped, heldBefore, gathered, whole, heldFits, gateFragment, refusing}
+
+-- ---- what is held
+
+pub with-held-law : (c r : Central) (b d : Bearer) (n : ℕ) → b ≡ c .bearer → d ≡ holding b n → r ≡ withBearer c d → r ≡ withHeld c n
+with-held-law c r b d n e f g = g ∙ ap (λ (z : Bearer). withBearer c z) (f ∙ ap (λ (z : Bearer). holding z n) e)
+
+module _ (s : State) (st fragment : List ℕ) (start : Bool) (b : Bearer) (e : b ≡ central s .bearer) (from : ℕ) (f : from ≡ heldBefore b start) where
+  before : from ≡ heldBefore (central s .bearer) start
+  before = f ∙ ap (λ (z : Bearer). heldBefore z start) e
+
+  pub gather-room : heldBefore (s .bearer) start + length fragment ≤ frameSize → from + length fragment ≤ frameSize
+  gather-room h = omega (arith, h, before)
+
+  pub gather-law : (st₁ : List ℕ) (r : State) → st₁ ≡ splice st (heldAt + from) fragment 0 (length fragment) → central r ≡ withHeld (central s) (from + length fragment)
+      → held r st₁ ≡ gathered (held s st) start fragment
+  unfolding gathered
+  gather-law st₁ r g h =
+      ap (λ (c : Central). record { state = c; store = st₁ }) h
+      ∙ ap (λ (l : List ℕ). record { state = withHeld (central s) (from + length fragment); store = l }) g
+      ∙ ap (λ (m : ℕ). record { state = withHeld (central s) (m + length fragment); store = splice st (heldAt + m) fragment 0 (length fragment) }) before
+
+-- ---- a frame
+
+module _ (s : State) (st : List ℕ) (b : Bearer) (e : b ≡ central s .bearer) where
+  pub whole-short : b .held < 4 → false ≡ whole (held s st)
+  whole-short h = rw (← e, lt-leb 4 (b .held) h)
+
+  pub whole-law : (n : ℕ) → 4 ≤ b .held → n ≡ leAt 2 st heldAt → leb n (b .held - 4) ≡ whole (held s st)
+  whole-law n h f = rw (← e, le-leb 4 (b .held) h, ← f) (fits-less (b .held) n 4 h ∙ ap (λ (m : ℕ). leb m (b .held)) (omega arith))
+
+-- ---- refusals
+
+module _ (b : Bearer) (start : Bool) (n : ℕ) (d : Bool) (e : d ≡ dropped b start) where
+  pub fits-dropped : d ≡ true → true ≡ heldFits b start n
+  unfolding heldFits
+  fits-dropped h = rw (← e, h)
+
+  pub fits-long : d ≡ false → frameSize < n → false ≡ heldFits b start n
+  unfolding heldFits
+  fits-long h k = rw (← e, h) (fits-more frameSize (heldBefore b start) n k)
+
+  pub fits-law : (from : ℕ) → d ≡ false → n ≤ frameSize → from ≡ heldBefore b start → leb from (frameSize - n) ≡ heldFits b start n
+  unfolding heldFits
+  fits-law from h k f = ap (λ (m : ℕ). leb m (frameSize - n)) f ∙ rw (← e, h) (fits-less frameSize (heldBefore b start) n k)
+
+module _ (c : Central) (store out : ℕ) (at : Micros) (start : Bool) (n g : ℕ) (e : g ≡ gate c store out at) where
+  pub gate-shared : (g ≡ 0 → ⊥) → g ≡ gateFragment c store out at start n
+  unfolding gateFragment
+  gate-shared h = rw (← e, ne-eqb g 0 h)
+
+  module _ (h : g ≡ 0) (full : Bool) (k : full ≡ eqb (c .counters .notified) mostNotified) (x : Bool) (f : x ≡ heldFits (c .bearer) start n) where
+    pub gate-full : full ≡ true → counterFull ≡ gateFragment c store out at start n
+    unfolding gateFragment
+    gate-full l = rw (← e, eq-eqb g 0 h, ← k, l)
+
+    pub gate-long : full ≡ false → not x ≡ true → longFrame ≡ gateFragment c store out at start n
+    unfolding gateFragment
+    gate-long l m = rw (← e, eq-eqb g 0 h, ← k, l, ← f, not-true x m)
+
+    pub gate-open : full ≡ false → not x ≡ false → accepted ≡ gateFragment c store out at start n
+    unfolding gateFragment
+    gate-open l m = rw (← e, eq-eqb g 0 h, ← k, l, ← f, not-false x m)
+
+module _ (c r : Central) (why : ℕ) where
+  pub refusing-long : why ≡ longFrame → r ≡ withHeld c 0 → r ≡ refusing c why
+  refusing-long h e = e ∙ rw (eq-eqb why longFrame h)
+
+  pub refusing-else : (why ≡ longFrame → ⊥) → c ≡ refusing c why
+  refusing-else h = rw (ne-eqb why longFrame h)
+
+-- ---- what a gate that refuses nothing has shown
+
+pub record PassedFragment (c : Central) (store out : ℕ) (at : Micros) (start : Bool) (n : ℕ) : Type 0 where
+  pub shared : Passed c store out at
+  pub notified : c .counters .notified + 1 ≤ mostNotified
+  pub room : dropped (c .bearer) start ≡ false → heldBefore (c .bearer) start + n ≤ frameSize
+
+below : (x most : ℕ) → x ≤ most → (x ≡ most → ⊥) → x + 1 ≤ most
+below x most h k = omega arith
+
+roomy : (b : Bearer) (start : Bool) (n : ℕ) → heldFits b start n ≡ true → dropped b start ≡ false → heldBefore b start + n ≤ frameSize
+unfolding heldFits
+roomy b start n e f = leb-true (heldBefore b start + n) frameSize (go (dropped b start) f e)
+  where
+    go : (x : Bool) → x ≡ false → x || leb (heldBefore b start + n) frameSize ≡ true → leb (heldBefore b start + n) frameSize ≡ true
+    go true h l = absurd (false≢true (sym h))
+    go false h l = l
+
+pub passed-fragment : (c : Central) (store out : ℕ) (at : Micros) (start : Bool) (n : ℕ) → gateFragment c store out at start n ≡ 0 → PassedFragment c store out at start n
+unfolding gateFragment
+passed-fragment c store out at start n =
+    go (eqb (gate c store out at) accepted) refl (eqb (c .counters .notified) mostNotified) refl (heldFits (c .bearer) start n) refl
+  where
+    go : (x : Bool) → eqb (gate c store out at) accepted ≡ x → (y : Bool) → eqb (c .counters .notified) mostNotified ≡ y → (z : Bool) → heldFits (c .bearer) start n ≡ z
+        → _≡_ {A = ℕ} (pick x (pick y counterFull (pick z accepted longFrame)) (gate c store out at)) 0 → PassedFragment c store out at start n
+    go true ex false ey true ez h =
+        let p = passed c store out at (eqb-true (gate c store out at) 0 ex) in
+        record {
+          shared = p;
+          notified = below (c .counters .notified) mostNotified (p .fit .head .notified) (eqb-false (c .counters .notified) mostNotified ey);
+          room = roomy (c .bearer) start n ez;
+        }
+    go true ex false ey false ez h = absurd (omega arith)
+    go true ex true ey z ez h = absurd (omega arith)
+    go false ex y ey z ez h = absurd (eqb-false (gate c store out at) 0 ex h)

@@ -1,0 +1,24 @@
+use mathlib.Core.Path.{sym}
+use native.Mathlib.Omega.{arith}
+use lib.ListN.{List·getD-eq-default}
+use denote.Ref.{now}
+use borrow.Author.Needs.{needs}
+use Rattle.frames.proofs.byte_of.Statement.{statement}
+use Rattle.frames.proofs.byte_of.Tie as tie
+use Rattle.frames.proofs.byte_of.Reads as reads
+use Rattle.frames.proofs.byte_of.Lts as lts
+
+-- src/lib.rt:19:22
+shared-slice-read-result : tie.Need-shared-slice-read-result
+shared-slice-read-result c = search needs
+
+-- src/lib.rt:16:1
+returns : tie.Need-returns
+returns c = search needs
+
+-- src/lib.rt:16:1
+returns-2 : tie.Need-returns-2
+returns-2 c = sym (List·getD-eq-default (now (c .before .args .p)) 0 (omega arith))
+
+pub byte-of-spec : {M : Type 1} → statement M
+byte-of-spec = tie.close (tie.spec shared-slice-read-result returns returns-2)

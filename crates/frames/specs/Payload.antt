@@ -1,0 +1,37 @@
+-- The frame that is held, once it is whole, and what the work on it goes by.
+use Prim.Native.Nat.{ℕ, _+_, _≤_}
+use mathlib.Core.List.{List}
+use Rattle.places.specs.Sizes.{heldAt}
+use Rattle.queues.specs.Blocks.{bytes}
+use Rattle.state.specs.Central.{Central, withBearer}
+use Rattle.state.specs.declared.Link.{Link}
+use Rattle.turns.specs.World.{Held, World}
+use Rattle.turns.specs.Finish.{withLink}
+use Rattle.turns.specs.Ready.{Ready}
+use Rattle.keeps.specs.Nearly.{Nearly}
+
+-- its payload stands behind its length and its channel (Core Vol 3 Part A 3.1)
+abbrev pub payloadAt : ℕ
+payloadAt = heldAt + 4
+
+-- the most that can stand there
+abbrev pub payloadSize : ℕ
+payloadSize = 247
+
+-- n bytes of payload
+abbrev pub payload : Held → ℕ → List ℕ
+payload h n = bytes (h .store) payloadAt n
+
+-- a payload of n bytes is there, and a frame may go out
+pub record Reads (n : ℕ) (w : World) : Type 0 where
+  pub ready : Ready 64 w
+  pub nearly : Nearly (w .held .state)
+  pub short : n ≤ payloadSize
+
+-- ---- the link's MTU
+
+abbrev pub agreed : Link → ℕ → Link
+agreed l mtu = record { handle = l .handle; mtu = mtu; pending = l .pending; terminating = l .terminating }
+
+abbrev pub withMtu : Central → ℕ → Central
+withMtu c mtu = withBearer c (withLink (c .bearer) (agreed (c .bearer .link) mtu))

@@ -1,0 +1,4 @@
+pub mod KeepLaws
+pub mod ChannelLaws
+pub mod FrameLaws
+pub mod CallLaws

@@ -1,0 +1,106 @@
+-- What each return of the functions that answer asks, from what their callees ensure.
+use Prim.Native.Nat.{ℕ, _+_, _-_, _≤_, max, min}
+use mathlib.Core.Path.{_≡_, sym, ap, ap₂, subst, _∙_}
+use mathlib.Core.Bool.{Bool, true, false}
+use mathlib.Core.List.{List}
+use native.Mathlib.Omega.{arith}
+use lib.ListN.{length, take, drop}
+use borrow.Author.Tests.{eq-eqb, ne-eqb}
+use Rattle.wire.specs.Numbers.{cidAtt, cidSignaling, cidSmp}
+use Rattle.att_pdu.specs.Pdu.{attError, exchangeMtuRsp, confirmation}
+use Rattle.signaling.specs.Answer.{signalingAnswer, smpAnswer}
+use Rattle.signaling.specs.AnswerLaws.{Sized, signaling-sized, smp-sized}
+use Rattle.signaling.specs.declared.SignalingAnswer.{SignalingAnswer}
+use Rattle.signaling.specs.declared.SmpAnswer.{SmpAnswer}
+use Rattle.signaling.specs.declared.Update as update
+use Rattle.signaling.specs.declared.Update.the-variants as update-variants
+use Rattle.queues.specs.Blocks.{bytes}
+use Rattle.fit.specs.Steps.{leastMtu, mostMtu}
+use Rattle.state.specs.Central.{Central, central}
+use Rattle.state.specs.declared.LinkRequest.the-variants.{Update}
+use Rattle.state.specs.declared.Sent.{Sent}
+use Rattle.state.specs.declared.State.{State}
+use Rattle.state.specs.declared.Turn.{Turn}
+use Rattle.turns.specs.World.{Told, told, world}
+use Rattle.turns.specs.Send.{Room, send}
+use Rattle.starts.proofs.StartLaws.{less-room}
+use Rattle.frames.specs.Payload.{payloadAt, withMtu}
+use Rattle.replies.specs.Replies.{reply, asksUpdate, onSignaling, onSmp, refuse, exchange, confirmed}
+
+-- ---- signaling and security manager
+
+module _ (t : Told) (channel n : ℕ) (answer : List ℕ) where
+  pub reply-none : n ≡ 0 → t ≡ reply t channel n answer
+  unfolding reply
+  reply-none e = rw (eq-eqb n 0 e)
+
+  pub reply-some : (r : Told) → (n ≡ 0 → ⊥) → r ≡ send t channel (take (n - 0) (drop 0 answer)) → r ≡ reply t channel n answer
+  unfolding reply
+  reply-some r z e =
+      let same : n - 0 ≡ n = omega arith in
+      e ∙ ap (λ (m : ℕ). send t channel (take m answer)) same ∙ rw (ne-eqb n 0 z)
+
+pub asks-nothing : (s : Sent) (u : update.Update) → u ≡ update-variants.Nothing → (o : List ℕ) → told s o ≡ asksUpdate (told s o) u
+asks-nothing s u e o = sym (ap (asksUpdate (told s o)) e)
+
+pub asks-update : (s : Sent) (u : update.Update) (interval latency timeout : ℕ) → u ≡ update-variants.To interval latency timeout
+    → (o : List ℕ) → told (record { frames = s .frames; bytes = s .bytes; request = Update interval latency timeout }) o ≡ asksUpdate (told s o) u
+asks-update s u interval latency timeout e o = sym (ap (asksUpdate (told s o)) e)
+
+-- an answer has the bytes that go back, and room
+fits : (s : Sent) (o size n : ℕ) (answer : List ℕ) → Sized size n answer → Room s o size → Room s o n × (n ≤ length answer)
+fits s o size n answer z r = (less-room s o size n r (z .within), omega (arith, z .whole, z .within))
+
+pub signaling-fits : (s : Sent) (o : ℕ) (pdu : List ℕ) (a : SignalingAnswer) → a ≡ signalingAnswer pdu → Room s o 6
+    → Room s o (a .len) × (a .len ≤ length (a .bytes))
+signaling-fits s o pdu a e r =
+    fits s o 6 (a .len) (a .bytes) (subst (λ (z : SignalingAnswer). Sized 6 (z .len) (z .bytes)) (sym e) (signaling-sized pdu)) r
+
+pub smp-fits : (s : Sent) (o : ℕ) (pdu : List ℕ) (a : SmpAnswer) → a ≡ smpAnswer pdu → Room s o 2
+    → Room s o (a .len) × (a .len ≤ length (a .bytes))
+smp-fits s o pdu a e r =
+    fits s o 2 (a .len) (a .bytes) (subst (λ (z : SmpAnswer). Sized 2 (z .len) (z .bytes)) (sym e) (smp-sized pdu)) r
+
+-- the payload, as the code cuts it
+abbrev pub cut : List ℕ → ℕ → List ℕ
+cut st n = take (payloadAt + n - payloadAt) (drop payloadAt st)
+
+cut-is : (st : List ℕ) (n : ℕ) → cut st n ≡ bytes st payloadAt n
+cut-is st n = let same : payloadAt + n - payloadAt ≡ n = omega arith in ap (λ (m : ℕ). take m (drop payloadAt st)) same
+
+module _ (t : Told) (st : List ℕ) (n : ℕ) where
+  pub signaling-law : (r mid : Sent) (out : List ℕ) (a : SignalingAnswer) → a ≡ signalingAnswer (cut st n)
+      → told mid out ≡ reply t cidSignaling (a .len) (a .bytes) → ((o : List ℕ) → told r o ≡ asksUpdate (told mid o) (a .update))
+      → told r out ≡ onSignaling t (bytes st payloadAt n)
+  unfolding onSignaling
+  signaling-law r mid out a e f g =
+      g out
+      ∙ ap (λ (x : Told). asksUpdate x (a .update)) f
+      ∙ ap (λ (z : SignalingAnswer). asksUpdate (reply t cidSignaling (z .len) (z .bytes)) (z .update)) (e ∙ ap signalingAnswer (cut-is st n))
+
+  pub smp-law : (r : Told) (a : SmpAnswer) → a ≡ smpAnswer (cut st n) → r ≡ reply t cidSmp (a .len) (a .bytes) → r ≡ onSmp t (bytes st payloadAt n)
+  unfolding onSmp
+  smp-law r a e f = f ∙ ap (λ (z : SmpAnswer). reply t cidSmp (z .len) (z .bytes)) (e ∙ ap smpAnswer (cut-is st n))
+
+-- ---- the peer's requests
+
+pub refuse-law : (t r : Told) (opcode handle code : ℕ) (pdu : List ℕ) → pdu ≡ attError opcode handle code → r ≡ send t cidAtt pdu → r ≡ refuse t opcode handle code
+unfolding refuse
+refuse-law t r opcode handle code pdu e f = f ∙ ap (send t cidAtt) e
+
+pub exchange-law : (t : Turn) (s : State) (n : Sent) (out out' pdu : List ℕ) (theirs mtu : ℕ)
+    → pdu ≡ exchangeMtuRsp mostMtu → told n out' ≡ send (told (t .sent) out) cidAtt pdu
+    → mtu ≡ max leastMtu (min theirs mostMtu) → central s ≡ withMtu (central (t .state)) mtu
+    → (st : List ℕ) → world (record { state = s; sent = n }) st out' ≡ exchange (world t st out) theirs
+unfolding exchange
+exchange-law t s n out out' pdu theirs mtu e₁ e₂ e₃ e₄ st =
+    ap₂ (λ (c : Central) (x : Told). record { held = record { state = c; store = st }; told = x })
+    (e₄ ∙ ap (withMtu (central (t .state))) e₃) (e₂ ∙ ap (send (told (t .sent) out) cidAtt) e₁)
+
+-- ---- indications
+
+pub confirms : (t r : Told) (i : Bool) (pdu : List ℕ) → i ≡ true → pdu ≡ confirmation → r ≡ send t cidAtt pdu → r ≡ confirmed t i
+confirms t r i pdu e f g = g ∙ ap (send t cidAtt) f ∙ sym (ap (confirmed t) e)
+
+pub says-nothing : (t : Told) (i : Bool) → i ≡ false → t ≡ confirmed t i
+says-nothing t i e = sym (ap (confirmed t) e)

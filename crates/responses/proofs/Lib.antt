@@ -1,0 +1,3 @@
+pub mod AbleLaws
+pub mod WalkLaws
+pub mod ResponseLaws

@@ -1,0 +1,53 @@
+use Rattle.responses.proofs.ResponseLaws.{some-byte, value-law, no-value}
+use borrow.Author.Needs.{needs}
+use Rattle.responses.proofs.value_read.Statement.{statement}
+use Rattle.responses.proofs.value_read.Tie as tie
+use Rattle.responses.proofs.value_read.Reads as reads
+use Rattle.responses.proofs.value_read.Lts as lts
+use Rattle.frames.proofs.byte.Reads as byte-reads
+use Rattle.turns.proofs.finish.Reads as finish-reads
+
+-- src/lib.rt:542:9
+byte-requires : tie.Need-byte-requires
+byte-requires c κs = search needs
+
+-- src/lib.rt:544:20
+sub-len : tie.Need-sub-len
+sub-len c = some-byte _ _ _ (c .before .byte .ensures) (c .if1 .taken)
+
+-- src/lib.rt:544:19
+cast-len : tie.Need-cast-len
+cast-len c = search needs
+
+-- src/lib.rt:545:13
+finish-requires : tie.Need-finish-requires
+finish-requires c κs = search needs
+
+-- src/lib.rt:546:9
+same-length : tie.Need-same-length
+same-length c = search needs
+
+-- src/lib.rt:546:9
+returns : tie.Need-returns
+returns c = value-law (c .before .before .before .before .before .before .before .before .before .before .args .t) _ _ _ _ (c .before .before .before .before .before .byte .ensures) _ _ (c .before .before .before .before .if1 .taken) (c .before .before .finish .ensures)
+
+-- src/lib.rt:536:1
+same-length-2 : tie.Need-same-length-2
+same-length-2 c = search needs
+
+-- src/lib.rt:536:1
+returns-2 : tie.Need-returns-2
+returns-2 c = no-value (c .before .before .before .before .before .before .args .t) _ _ _ _ (c .before .byte .ensures) (c .if1 .left)
+
+pub value-read-spec : {M : Type 1} → statement M
+value-read-spec =
+    tie.close
+    (tie.spec
+    byte-requires
+    sub-len
+    cast-len
+    finish-requires
+    same-length
+    returns
+    same-length-2
+    returns-2)
