@@ -1,0 +1,1 @@
+// Requests and what they wait for, over every sequence of calls: theorems, no code.

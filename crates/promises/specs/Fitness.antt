@@ -1,0 +1,169 @@
+-- Fit goes to fit over every sequence of calls, so none meets refusal 1.
+use Prim.Native.Nat.{ℕ, _≤_}
+use mathlib.Core.Path.{_≡_, refl, sym, ap, _∙_, subst}
+use mathlib.Core.Bool.{Bool, true, false, not, _&&_, false≢true}
+use mathlib.Core.List.{List, [], _∷_, _++_}
+use native.Mathlib.Omega.{arith}
+use lib.ListN.{length}
+use lib.Dec.{eqb, leb}
+use borrow.Author.Tests.{eqb-true}
+use Rattle.base.specs.Choice.{pick}
+use Rattle.places.specs.Sizes.{storeSize, outputSize, mostKeys, dataSize}
+use Rattle.queues.specs.Blocks.{Valued}
+use Rattle.time.specs.declared.Micros.{Micros}
+use Rattle.time.specs.Clock.{tooLate}
+use Rattle.state.specs.Central.{Central}
+use Rattle.state.specs.declared.Address.{Address}
+use Rattle.state.specs.declared.Queue.{Queue}
+use Rattle.state.specs.declared.Queued.{Queued}
+use Rattle.state.specs.declared.Running.{Running}
+use Rattle.state.specs.declared.StepResult.{StepResult}
+use Rattle.fit.specs.Fit.{fits, waiting, mostNotified}
+use Rattle.fit.specs.FitLaws as fit-laws
+use Rattle.fit.specs.Gate.{firstRefusal, gate, gateQuiet, gateReader}
+use Rattle.fit.specs.Refusals.{accepted, unfit, wrongSize, lateTime, badBatch, counterFull, longData, longFrame, keysFull}
+use Rattle.turns.specs.World.{Held}
+use Rattle.waiting.specs.declared.Batch.{Batch}
+use Rattle.keeps.specs.Timed.{Narrow, narrow, narrowAll}
+use Rattle.calls.specs.Outcome.{Outcome, done}
+use Rattle.batch.specs.Batch.{gateBatch, batchFits, countersFit}
+use Rattle.lasting.specs.Lasting.{Lasting, narrowBatch}
+use Rattle.lasting.proofs.FitGoesToFit.{fresh-lasts, push-steps-lasts, on-timer-lasts, on-connected-lasts, on-disconnected-lasts}
+use Rattle.lasting_link.proofs.FragmentLasts.{on-fragment-lasts}
+use Rattle.radio.specs.Radio as radio
+use Rattle.radio.specs.Keeps as radio-keeps
+use Rattle.fragments.specs.Fragment.{gateFragment, heldFits}
+use Rattle.trails.specs.Calls.{Call, batch, timer, connected, disconnected, advertising, scanResponse, fragment, reads, does, left, run, gateOf, done?}
+use Rattle.trails.specs.Trail.{begins, goes, final}
+use Rattle.trails.specs.Log.{log, taken}
+use Rattle.trails.proofs.Ends.{refusedOf, does-law}
+use Rattle.trails.proofs.Goes.{Off, radio-off, response-off}
+use Rattle.books.proofs.Books.{Books}
+use Rattle.books.proofs.Accounting.{fresh, books-fresh, books-call}
+
+-- ---- calls as their types allow
+
+-- a step's milliseconds are a u32
+abbrev pub typed : Call → Bool
+typed (batch out at b values) = narrowBatch b
+typed (timer out at) = true
+typed (connected out handle at) = true
+typed (disconnected at) = true
+typed (advertising v) = true
+typed (scanResponse at a d) = true
+typed (fragment out at start piece) = true
+typed reads = true
+
+abbrev pub Typed : List Call → Type 0
+Typed [] = Unit {0}
+Typed (c ∷ cs) = (typed c ≡ true) × Typed cs
+
+-- ---- fit goes to fit
+
+off-narrow : (c d : Central) → Off c d → Narrow c → Narrow d
+off-narrow c d o n =
+    record {
+      running = λ e. ap (λ (r : Running). narrow (r .step)) (o .running) ∙ n .running (sym (ap (λ (r : Running). r .active) (o .running)) ∙ e);
+      waiting = ap (λ (q : Queue). narrowAll (waiting q)) (o .queue) ∙ n .waiting;
+    }
+
+lasts-call : (l : List (Valued StepResult)) (q : List Queued) (h : Held) (c : Call) → typed c ≡ true → Books l q h → Lasting (h .state) → Lasting (left (does h c) .state)
+lasts-call l q h (batch out at b values) t k f = push-steps-lasts (h .state) f (h .store) out at b values t
+lasts-call l q h (timer out at) t k f = on-timer-lasts (h .state) f (h .store) out at
+lasts-call l q h (connected out handle at) t k f = on-connected-lasts (h .state) f (h .store) out handle at
+lasts-call l q h (disconnected at) t k f = on-disconnected-lasts (h .state) f (h .store) at
+lasts-call l q h (advertising v) t k f =
+    let s = radio-keeps.advertised-sound (h .state) (h .store) (fit-laws.fit-of (h .state) (f .fit)) (k .sizes .reports) (k .sizes .keys) v in
+    record { fit = fit-laws.of-fit _ (s .fit); narrow = off-narrow (h .state) _ (radio-off (h .state) (h .store) v) (f .narrow) }
+lasts-call l q h (scanResponse at a d) t k f =
+    let s = radio-keeps.responded-sound (h .state) (h .store) (fit-laws.fit-of (h .state) (f .fit)) (k .sizes .reports) (k .sizes .keys) at a d in
+    record { fit = fit-laws.of-fit _ (s .fit); narrow = off-narrow (h .state) _ (response-off (h .state) (h .store) at a d) (f .narrow) }
+lasts-call l q h (fragment out at start piece) t k f = on-fragment-lasts (h .state) f (h .store) out at start piece
+lasts-call l q h reads t k f = f
+
+lasts-run : (l : List (Valued StepResult)) (q : List Queued) (h : Held) (cs : List Call) → Typed cs → Books l q h → Lasting (h .state) → Lasting (run h cs .state)
+lasts-run l q h [] t k f = f
+lasts-run l q h (c ∷ cs) t k f = lasts-run _ _ (left (does h c)) cs (t .1) (books-call l q h c k) (lasts-call l q h c (t .0) k f)
+
+pub lasting : (store : List ℕ) (cs : List Call) → Typed cs → Lasting (run (fresh store) cs .state)
+lasting store cs t = lasts-run [] [] (fresh store) cs t (books-fresh store) fresh-lasts
+
+-- ---- the refusal
+
+pub refusal-is : (h : Held) (c : Call) → does h c .refusal ≡ gateOf h c
+refusal-is h c = ap (λ (x : Outcome). x .refusal) (does-law h c) ∙ go (done? h c) refl
+  where
+    told : refusedOf h c .refusal ≡ gateOf h c
+    told = by c
+      where
+        by : (d : Call) → refusedOf h d .refusal ≡ gateOf h d
+        by (batch out at b values) = refl
+        by (timer out at) = refl
+        by (connected out handle at) = refl
+        by (disconnected at) = refl
+        by (advertising v) = refl
+        by (scanResponse at a d) = refl
+        by (fragment out at start piece) = refl
+        by reads = refl
+
+    go : (x : Bool) → done? h c ≡ x → pick x (done (final (begins h c) (goes h c))) (refusedOf h c) .refusal ≡ gateOf h c
+    go true e = sym (eqb-true (gateOf h c) accepted e)
+    go false e = told
+
+-- a fit state is never refused for itself
+first-fit : (f : Bool) → f ≡ true → (x y : Bool) → firstRefusal f x y ≡ unfit → ⊥
+unfolding firstRefusal
+first-fit true e true true h = omega arith
+first-fit true e true false h = omega arith
+first-fit true e false y h = omega arith
+first-fit false e x y h = false≢true e
+
+-- nor by a refusal that comes later
+later : (g : ℕ) → (g ≡ unfit → ⊥) → (x : Bool) (n : ℕ) → (n ≡ unfit → ⊥) → pick x n g ≡ unfit → ⊥
+later g a true n b h = b h
+later g a false n b h = a h
+
+batch-later : (x y : Bool) → _≡_ {A = ℕ} (pick x (pick y accepted counterFull) badBatch) unfit → ⊥
+batch-later true true h = omega arith
+batch-later true false h = omega arith
+batch-later false y h = omega arith
+
+fragment-later : (x y : Bool) → _≡_ {A = ℕ} (pick x counterFull (pick y accepted longFrame)) unfit → ⊥
+fragment-later true y h = omega arith
+fragment-later false true h = omega arith
+fragment-later false false h = omega arith
+
+one-later : (x : Bool) (n : ℕ) → (n ≡ unfit → ⊥) → _≡_ {A = ℕ} (pick x accepted n) unfit → ⊥
+one-later true n b h = omega arith
+one-later false n b h = b h
+
+gate-fit : (h : Held) (c : Call) → fits (h .state) ≡ true → gateOf h c ≡ unfit → ⊥
+unfolding gateBatch gateFragment radio.refusal radio.thenData
+gate-fit h (batch out at b values) f =
+    let g = gate (h .state) (length (h .store)) (length out) at in
+    later g (first-fit (fits (h .state)) f _ _) (eqb g accepted) _ (batch-later (batchFits (length values) b) (countersFit (h .state .counters) (h .state .queue .count) (b .count)))
+gate-fit h (timer out at) f = first-fit (fits (h .state)) f _ _
+gate-fit h (connected out handle at) f = first-fit (fits (h .state)) f _ _
+gate-fit h (disconnected at) f = first-fit (fits (h .state)) f _ _
+gate-fit h (advertising v) f =
+    let g = gateQuiet (h .state) (length (h .store)) (v .at) in
+    let d = radio.thenData g (length (v .bytes)) in
+    later d (later g (first-fit (fits (h .state)) f _ _) (eqb g accepted) _ (one-later (leb (length (v .bytes)) dataSize) longData (λ e. omega arith))) (eqb d accepted) _
+    (two (radio.due (h .state) v && eqb (h .state .keys .count) mostKeys))
+  where
+    two : (x : Bool) → _≡_ {A = ℕ} (pick x keysFull accepted) unfit → ⊥
+    two true e = omega arith
+    two false e = omega arith
+gate-fit h (scanResponse at a d) f =
+    let g = gateQuiet (h .state) (length (h .store)) at in
+    later g (first-fit (fits (h .state)) f _ _) (eqb g accepted) _ (one-later (leb (length d) dataSize) longData (λ e. omega arith))
+gate-fit h (fragment out at start piece) f =
+    let g = gate (h .state) (length (h .store)) (length out) at in
+    later g (first-fit (fits (h .state)) f _ _) (eqb g accepted) _
+    (fragment-later (eqb (h .state .counters .notified) mostNotified) (heldFits (h .state .bearer) start (length piece)))
+gate-fit h reads f = first-fit (fits (h .state)) f _ _
+
+pub never-unfit : (store : List ℕ) (cs : List Call) → Typed cs → (c : Call) → does (run (fresh store) cs) c .refusal ≡ unfit → ⊥
+never-unfit store cs t c e =
+    let h = run (fresh store) cs in
+    gate-fit h c (lasting store cs t .fit) (sym (refusal-is h c) ∙ e)

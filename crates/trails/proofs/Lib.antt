@@ -1,0 +1,4 @@
+pub mod Unlinked
+pub mod Ends
+pub mod Hops
+pub mod Goes
