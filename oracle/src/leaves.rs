@@ -1,5 +1,7 @@
-//! The leaves of the port against the Rust, in one process: `leaves [seed N] [count N]`.
+//! The leaves of the port against the Rust: `leaves PROGRAM [seed N] [count N]`, where PROGRAM answers for the port (leaf_port.c).
 //!
+//! One thread makes the inputs and writes the requests; the other makes the same inputs again, reads the answers in
+//! their order and compares. Nothing waits for a single answer, so it is fast also where the program is emulated.
 //! For each leaf a fixed set (all short inputs, boundaries) and `count` random ones (1,000,000). What is told of the
 //! place of a body or a name is compared with a slow computation, since the Rust does not tell it. The Rust reads UUID text
 //! from a `&str`, so text that is not UTF-8 has no answer there: it is left out of the number tried, and the port has
@@ -17,8 +19,10 @@ mod rust;
 mod slow;
 
 use inputs::{Case, Each, Random};
+use port::{Answers, Asks};
 use std::fmt::Debug;
-use std::process::exit;
+use std::process::{Child, exit};
+use std::thread;
 use std::time::Instant;
 
 enum Verdict {
@@ -47,7 +51,10 @@ fn uuid(told: Option<port::Number>) -> String {
     told.map_or("none".to_string(), |u| format!("{u:032x}"))
 }
 
-type Check = fn(&Case, &mut rust::Params) -> Verdict;
+/// All that the port is asked of one input.
+type Ask = fn(&Case, &mut Asks);
+/// Reads all the answers to that before it judges, so that the next answer is the next input's.
+type Check = fn(&Case, &mut Answers, &mut rust::Params) -> Verdict;
 
 struct Leaf {
     name: &'static str,
@@ -57,6 +64,7 @@ struct Leaf {
     shows: &'static [Part],
     fixed: fn(Each),
     random: fn(&mut Random, u64, &mut Case),
+    ask: Ask,
     check: Check,
 }
 
@@ -76,6 +84,7 @@ const LEAVES: [Leaf; 7] = [
         shows: &[Part::Text],
         fixed: inputs::text_fixed,
         random: inputs::text,
+        ask: |c, to| to.parse(&c.data),
         check: parse,
     },
     Leaf {
@@ -84,6 +93,7 @@ const LEAVES: [Leaf; 7] = [
         shows: &[Part::Data],
         fixed: inputs::att_fixed,
         random: inputs::att,
+        ask: |c, to| to.from_att(&c.data),
         check: from_att,
     },
     Leaf {
@@ -92,6 +102,7 @@ const LEAVES: [Leaf; 7] = [
         shows: &[Part::Uuid],
         fixed: inputs::uuid_fixed,
         random: inputs::uuid,
+        ask: ask_to_att,
         check: to_att,
     },
     Leaf {
@@ -100,6 +111,7 @@ const LEAVES: [Leaf; 7] = [
         shows: &[Part::Data, Part::Uuid],
         fixed: inputs::search_fixed,
         random: inputs::search,
+        ask: ask_search,
         check: search,
     },
     Leaf {
@@ -108,6 +120,7 @@ const LEAVES: [Leaf; 7] = [
         shows: &[Part::Data, Part::Response, Part::Uuid],
         fixed: inputs::search_fixed,
         random: inputs::search,
+        ask: |c, to| to.listed_body(&c.data, &c.response, c.uuid),
         check: matched_body,
     },
     Leaf {
@@ -116,6 +129,7 @@ const LEAVES: [Leaf; 7] = [
         shows: &[Part::Data],
         fixed: inputs::name_fixed,
         random: inputs::name,
+        ask: |c, to| to.local_name(&c.data),
         check: name,
     },
     Leaf {
@@ -124,12 +138,13 @@ const LEAVES: [Leaf; 7] = [
         shows: &[Part::Params],
         fixed: inputs::params_fixed,
         random: inputs::params,
+        ask: |c, to| to.params_good(c.params()),
         check: params,
     },
 ];
 
-fn parse(c: &Case, _: &mut rust::Params) -> Verdict {
-    let got = port::parse(&c.data);
+fn parse(c: &Case, port: &mut Answers, _: &mut rust::Params) -> Verdict {
+    let got = port.parse();
     let Ok(text) = std::str::from_utf8(&c.data) else {
         return if got == Ok(None) { NoRust } else { differ("no UTF-8, so no UUID", got.map(uuid)) };
     };
@@ -144,8 +159,8 @@ fn parse(c: &Case, _: &mut rust::Params) -> Verdict {
     })
 }
 
-fn from_att(c: &Case, _: &mut rust::Params) -> Verdict {
-    let (want, got) = (rust::from_att(&c.data), port::from_att(&c.data));
+fn from_att(c: &Case, port: &mut Answers, _: &mut rust::Params) -> Verdict {
+    let (want, got) = (rust::from_att(&c.data), port.from_att());
     if got != Ok(want) {
         return differ(uuid(want), got.map(uuid));
     }
@@ -156,30 +171,41 @@ fn from_att(c: &Case, _: &mut rust::Params) -> Verdict {
     })
 }
 
-fn to_att(c: &Case, _: &mut rust::Params) -> Verdict {
+fn ask_to_att(c: &Case, to: &mut Asks) {
+    to.to_att(c.uuid);
+    // From the bytes the same UUID comes back.
+    to.from_att(&rust::to_att(c.uuid));
+}
+
+fn to_att(c: &Case, port: &mut Answers, _: &mut rust::Params) -> Verdict {
     let want = rust::to_att(c.uuid);
-    let (bytes, len) = match port::to_att(c.uuid) {
+    let (told, back) = (port.to_att(), port.from_att());
+    let (bytes, len) = match told {
         Ok(told) => told,
         Err(wrong) => return differ(hex(&want), wrong),
     };
     if bytes[..len] != want {
         return differ(hex(&want), hex(&bytes[..len]));
     }
-    // From the bytes the same UUID comes back.
-    let back = port::from_att(&want);
     if back != Ok(Some(c.uuid)) {
         return differ(uuid(Some(c.uuid)), back.map(uuid));
     }
     Alike(usize::from(len != 2))
 }
 
-fn search(c: &Case, _: &mut rust::Params) -> Verdict {
-    let (want, got) = (rust::lists_service(&c.data, c.uuid), port::lists_service(&c.data, c.uuid));
+fn ask_search(c: &Case, to: &mut Asks) {
+    to.lists_service(&c.data, c.uuid);
+    to.find_service(&c.data, c.uuid);
+}
+
+fn search(c: &Case, port: &mut Answers, _: &mut rust::Params) -> Verdict {
+    let (want, got) = (rust::lists_service(&c.data, c.uuid), port.lists_service());
+    let found = port.find_service();
     if got != want {
         return differ(want, got);
     }
     let listed = slow::listed(&c.data, c.uuid);
-    let (place, found) = (listed.map(|(_, place)| place), port::find_service(&c.data, c.uuid));
+    let place = listed.map(|(_, place)| place);
     if found != Ok(place) || want != place.is_some() {
         return differ((want, place), found);
     }
@@ -191,17 +217,16 @@ fn search(c: &Case, _: &mut rust::Params) -> Verdict {
     })
 }
 
-fn matched_body(c: &Case, _: &mut rust::Params) -> Verdict {
+fn matched_body(c: &Case, port: &mut Answers, _: &mut rust::Params) -> Verdict {
     let (data, response) = (rust::lists_service(&c.data, c.uuid), rust::lists_service(&c.response, c.uuid));
     let of = if data { &c.data } else { &c.response };
     let want = match slow::listed(of, c.uuid) {
         Some((_, (start, count))) => &of[start..start + count],
         None => &[],
     };
-    let mut out = [0xA5; 256];
-    let len = port::listed_body(&c.data, &c.response, c.uuid, &mut out);
-    if len != want.len() || out[..len] != *want || out[len..].iter().any(|b| *b != 0xA5) {
-        return differ((data, response, hex(want)), (len, hex(&out[..len.min(out.len())])));
+    let got = port.listed_body();
+    if !matches!(&got, Ok((len, out)) if out[..*len] == *want) {
+        return differ((data, response, hex(want)), got.map(|(len, out)| (len, hex(&out[..len]))));
     }
     Alike(if data {
         0
@@ -212,8 +237,8 @@ fn matched_body(c: &Case, _: &mut rust::Params) -> Verdict {
     })
 }
 
-fn name(c: &Case, _: &mut rust::Params) -> Verdict {
-    let (want, got) = (rust::local_name(&c.data), port::local_name(&c.data));
+fn name(c: &Case, port: &mut Answers, _: &mut rust::Params) -> Verdict {
+    let (want, got) = (rust::local_name(&c.data), port.local_name());
     let place = slow::named(&c.data);
     let right = match (&want, &got) {
         (None, Ok(None)) => true,
@@ -230,8 +255,8 @@ fn name(c: &Case, _: &mut rust::Params) -> Verdict {
     })
 }
 
-fn params(c: &Case, rust: &mut rust::Params) -> Verdict {
-    let (want, got) = (rust.good(c.params()), port::params_good(c.params()));
+fn params(c: &Case, port: &mut Answers, rust: &mut rust::Params) -> Verdict {
+    let (want, got) = (rust.good(c.params()), port.params_good());
     if want != Ok(got) {
         return differ(want, got);
     }
@@ -240,8 +265,30 @@ fn params(c: &Case, rust: &mut rust::Params) -> Verdict {
 
 // ---- a difference, made small
 
-fn differs(leaf: &Leaf, c: &Case, rust: &mut rust::Params) -> bool {
-    matches!((leaf.check)(c, rust), Differ { .. })
+/// The port asked about one input at a time, each answer awaited.
+struct Single<'a> {
+    program: &'a str,
+    running: Option<(Asks, Answers, Child)>,
+    rust: rust::Params,
+}
+
+impl Single<'_> {
+    /// A program that ends instead of answering differs, and another is started for the next input.
+    fn verdict(&mut self, leaf: &Leaf, c: &Case) -> Verdict {
+        let (asks, answers, _) = self.running.get_or_insert_with(|| port::start(self.program));
+        (leaf.ask)(c, asks);
+        asks.flush();
+        let verdict = (leaf.check)(c, answers, &mut self.rust);
+        if !answers.ended {
+            return verdict;
+        }
+        let ended = self.running.take().map(|(_, _, mut child)| child.wait());
+        differ("an answer", ended)
+    }
+
+    fn differs(&mut self, leaf: &Leaf, c: &Case) -> bool {
+        matches!(self.verdict(leaf, c), Differ { .. })
+    }
 }
 
 /// Smaller cases than this one: bytes removed, also with a length byte before them lowered; a byte or a half made 0.
@@ -292,9 +339,9 @@ fn smaller(leaf: &Leaf, c: &Case) -> Vec<Case> {
     all
 }
 
-fn shrunk(leaf: &Leaf, c: &Case, rust: &mut rust::Params) -> Case {
+fn shrunk(leaf: &Leaf, c: &Case, port: &mut Single) -> Case {
     let mut c = c.clone();
-    while let Some(s) = smaller(leaf, &c).into_iter().find(|s| differs(leaf, s, rust)) {
+    while let Some(s) = smaller(leaf, &c).into_iter().find(|s| port.differs(leaf, s)) {
         c = s;
     }
     c
@@ -312,11 +359,11 @@ fn show(leaf: &Leaf, c: &Case) {
     }
 }
 
-fn report(leaf: &Leaf, c: &Case, rust: &mut rust::Params) -> ! {
-    let small = shrunk(leaf, c, rust);
+fn report(leaf: &Leaf, c: &Case, port: &mut Single) -> ! {
+    let small = shrunk(leaf, c, port);
     println!("{}: the port differs from the Rust; the smallest input found:", leaf.name);
     show(leaf, &small);
-    if let Differ { rust, port } = (leaf.check)(&small, rust) {
+    if let Differ { rust, port } = port.verdict(leaf, &small) {
         println!("  the Rust    {rust}\n  the port    {port}");
     }
     println!("found at:");
@@ -327,45 +374,89 @@ fn report(leaf: &Leaf, c: &Case, rust: &mut rust::Params) -> ! {
 // ---- the run
 
 struct Options {
+    program: String,
     seed: u64,
     count: u64,
 }
 
+fn usage() -> ! {
+    eprintln!("usage: leaves PROGRAM [seed N] [count N]");
+    exit(2)
+}
+
 fn options() -> Options {
+    let mut words = std::env::args().skip(1);
     let mut o = Options {
+        program: words.next().unwrap_or_else(|| usage()),
         seed: 1,
         count: 1_000_000,
     };
-    let words: Vec<String> = std::env::args().skip(1).collect();
+    let words: Vec<String> = words.collect();
     for pair in words.chunks(2) {
         match (pair[0].as_str(), pair.get(1).and_then(|n| n.parse().ok())) {
             ("seed", Some(n)) => o.seed = n,
             ("count", Some(n)) => o.count = n,
-            _ => {
-                eprintln!("usage: leaves [seed N] [count N]");
-                exit(2)
-            }
+            _ => usage(),
         }
     }
     o
 }
 
-fn run(leaf: &Leaf, o: &Options) {
-    let began = Instant::now();
-    let mut rust = rust::Params::new();
-    let mut counts = vec![0u64; leaf.kinds.len()];
-    let mut left_out = 0;
-    let mut try_one = |c: &Case| match (leaf.check)(c, &mut rust) {
-        Alike(kind) => counts[kind] += 1,
-        NoRust => left_out += 1,
-        Differ { .. } => report(leaf, c, &mut rust),
-    };
-    (leaf.fixed)(&mut try_one);
+/// The inputs of a leaf, the same ones in the same order each time.
+fn each_case(leaf: &Leaf, o: &Options, each: Each) {
+    (leaf.fixed)(each);
     let mut random = Random::new(o.seed);
     let mut c = Case::default();
     for i in 0..o.count {
         (leaf.random)(&mut random, i, &mut c);
-        try_one(&c);
+        each(&c);
+    }
+}
+
+/// How many answers there were of each kind, and how many texts that the Rust does not take.
+fn compare(leaf: &Leaf, o: &Options, answers: &mut Answers) -> (Vec<u64>, u64) {
+    let mut rust = rust::Params::new();
+    let mut single = Single {
+        program: &o.program,
+        running: None,
+        rust: rust::Params::new(),
+    };
+    let mut counts = vec![0; leaf.kinds.len()];
+    let mut left_out = 0;
+    each_case(leaf, o, &mut |c| {
+        let mut verdict = (leaf.check)(c, answers, &mut rust);
+        if answers.ended {
+            // It ended at this input or at a later one, and asked one by one it shows which.
+            verdict = single.verdict(leaf, c);
+        }
+        match verdict {
+            Alike(kind) => counts[kind] += 1,
+            NoRust => left_out += 1,
+            Differ { .. } => report(leaf, c, &mut single),
+        }
+    });
+    (counts, left_out)
+}
+
+fn run(leaf: &Leaf, o: &Options) {
+    let began = Instant::now();
+    let (mut asks, mut answers, mut child) = port::start(&o.program);
+    let (counts, left_out) = thread::scope(|threads| {
+        threads.spawn(move || {
+            each_case(leaf, o, &mut |c| (leaf.ask)(c, &mut asks));
+            asks.flush();
+        });
+        compare(leaf, o, &mut answers)
+    });
+    let whole = !answers.ended && answers.at_end();
+    if !whole {
+        // It may be waiting for someone to read what it has too much.
+        let _ = child.kill();
+    }
+    let ended = child.wait();
+    if !whole || !matches!(&ended, Ok(status) if status.success()) {
+        println!("{}: {} did not answer each request once and end well: {ended:?}", leaf.name, o.program);
+        exit(1)
     }
     let kinds: Vec<_> = leaf.kinds.iter().zip(&counts).map(|(k, n)| format!("{k} {n}")).collect();
     let beside = if left_out > 0 { format!(" ({left_out} texts are not UTF-8)") } else { String::new() };

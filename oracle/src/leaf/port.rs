@@ -1,129 +1,186 @@
-//! The leaves of the port, as the archives of `collector` and `leaf_exports` hand them out.
+//! The leaves of the port, as the program of oracle/src/leaf_port.c tells them: `Asks` writes requests, `Answers` reads what
+//! came of them, in the same order.
+use std::io::{BufReader, BufWriter, Read, Write};
+use std::process::{Child, ChildStdin, ChildStdout, Command, Stdio, exit};
 
 /// A UUID as its 128-bit number.
 pub type Number = u128;
 
-mod raw {
-    // A `&[u8]` of the port is a pointer and a length.
-    unsafe extern "C" {
-        pub safe fn barleyrope_params_good(min: u16, max: u16, latency: u16, timeout: u16) -> bool;
-        pub safe fn barleyrope_lists_service(data: *const u8, len: usize, low: u64, high: u64) -> bool;
-        pub safe fn barleyrope_find_service(
-            data: *const u8,
-            len: usize,
-            low: u64,
-            high: u64,
-            start: &mut usize,
-            count: &mut usize,
-        ) -> bool;
-        pub safe fn leaf_parse(text: *const u8, len: usize, low: &mut u64, high: &mut u64) -> bool;
-        pub safe fn leaf_from_att(bytes: *const u8, len: usize, low: &mut u64, high: &mut u64) -> bool;
-        pub safe fn leaf_to_att(low: u64, high: u64, out: *mut u8, room: usize) -> usize;
-        pub safe fn leaf_local_name(data: *const u8, len: usize, start: &mut usize, count: &mut usize) -> bool;
-        pub safe fn leaf_listed_body(
-            data: *const u8,
-            len: usize,
-            response: *const u8,
-            response_len: usize,
-            low: u64,
-            high: u64,
-            out: *mut u8,
-            room: usize,
-        ) -> usize;
-    }
+#[derive(Clone, Copy)]
+enum Tag {
+    Parse,
+    FromAtt,
+    ToAtt,
+    ListsService,
+    FindService,
+    ListedBody,
+    LocalName,
+    ParamsGood,
 }
 
 /// What stands in a place that a call is to leave alone.
-const UNTOUCHED: usize = 0x5EED_5EED;
+const UNTOUCHED: u64 = 0x5EED_5EED;
 const UNTOUCHED_BYTE: u8 = 0xA5;
+const ATT_ROOM: usize = 20;
+pub const BODY_ROOM: usize = 256;
 
-fn halves(uuid: Number) -> (u64, u64) {
-    (uuid as u64, (uuid >> 64) as u64)
+const BUFFER: usize = 1 << 20;
+
+/// Starts the program: where its requests go, where its answers come from, and the program itself.
+pub fn start(program: &str) -> (Asks, Answers, Child) {
+    let begun = Command::new(program).stdin(Stdio::piped()).stdout(Stdio::piped()).spawn();
+    let mut child = begun.unwrap_or_else(|e| {
+        eprintln!("leaves: {program} does not start: {e}");
+        exit(2)
+    });
+    let (Some(to), Some(from)) = (child.stdin.take(), child.stdout.take()) else {
+        unreachable!("both are pipes");
+    };
+    let asks = Asks(BufWriter::with_capacity(BUFFER, to));
+    let answers = Answers {
+        from: BufReader::with_capacity(BUFFER, from),
+        ended: false,
+    };
+    (asks, answers, child)
 }
 
-fn number(low: u64, high: u64) -> Number {
-    u128::from(high) << 64 | u128::from(low)
-}
+pub struct Asks(BufWriter<ChildStdin>);
 
-/// The UUID that a call told by two halves, which it has to leave alone where there is none.
-fn told(is: bool, low: u64, high: u64) -> Result<Option<Number>, String> {
-    if is {
-        Ok(Some(number(low, high)))
-    } else if (low, high) == (UNTOUCHED as u64, UNTOUCHED as u64) {
-        Ok(None)
-    } else {
-        Err(format!("none, but the halves became {low:016x} {high:016x}"))
+impl Asks {
+    /// A program that has ended takes no request; that is seen where its answer is missing.
+    fn ask(&mut self, tag: Tag, data: &[u8], response: &[u8], words: Number) {
+        let mut header = [0; 21];
+        header[0] = tag as u8;
+        header[1..3].copy_from_slice(&(data.len() as u16).to_le_bytes());
+        header[3..5].copy_from_slice(&(response.len() as u16).to_le_bytes());
+        header[5..].copy_from_slice(&words.to_le_bytes());
+        for part in [&header, data, response] {
+            let _ = self.0.write_all(part);
+        }
+    }
+
+    pub fn flush(&mut self) {
+        let _ = self.0.flush();
+    }
+
+    pub fn parse(&mut self, text: &[u8]) {
+        self.ask(Tag::Parse, text, &[], 0);
+    }
+
+    pub fn from_att(&mut self, bytes: &[u8]) {
+        self.ask(Tag::FromAtt, bytes, &[], 0);
+    }
+
+    pub fn to_att(&mut self, uuid: Number) {
+        self.ask(Tag::ToAtt, &[], &[], uuid);
+    }
+
+    pub fn lists_service(&mut self, data: &[u8], uuid: Number) {
+        self.ask(Tag::ListsService, data, &[], uuid);
+    }
+
+    pub fn find_service(&mut self, data: &[u8], uuid: Number) {
+        self.ask(Tag::FindService, data, &[], uuid);
+    }
+
+    pub fn listed_body(&mut self, data: &[u8], response: &[u8], uuid: Number) {
+        self.ask(Tag::ListedBody, data, response, uuid);
+    }
+
+    pub fn local_name(&mut self, data: &[u8]) {
+        self.ask(Tag::LocalName, data, &[], 0);
+    }
+
+    pub fn params_good(&mut self, p: [u16; 4]) {
+        self.ask(Tag::ParamsGood, &[], &[], p.iter().rev().fold(0, |n, v| n << 16 | Number::from(*v)));
     }
 }
 
-fn place(is: bool, start: usize, count: usize) -> Result<Option<(usize, usize)>, String> {
-    if is {
-        Ok(Some((start, count)))
-    } else if (start, count) == (UNTOUCHED, UNTOUCHED) {
-        Ok(None)
-    } else {
-        Err(format!("none, but start and count became {start} {count}"))
+pub struct Answers {
+    from: BufReader<ChildStdout>,
+    /// The program ended before it had answered all; what has been read since means nothing.
+    pub ended: bool,
+}
+
+impl Answers {
+    fn bytes<const N: usize>(&mut self) -> [u8; N] {
+        let mut bytes = [0; N];
+        self.ended |= self.from.read_exact(&mut bytes).is_err();
+        bytes
     }
-}
 
-pub fn parse(text: &[u8]) -> Result<Option<Number>, String> {
-    let (mut low, mut high) = (UNTOUCHED as u64, UNTOUCHED as u64);
-    let is = raw::leaf_parse(text.as_ptr(), text.len(), &mut low, &mut high);
-    told(is, low, high)
-}
-
-pub fn from_att(bytes: &[u8]) -> Result<Option<Number>, String> {
-    let (mut low, mut high) = (UNTOUCHED as u64, UNTOUCHED as u64);
-    let is = raw::leaf_from_att(bytes.as_ptr(), bytes.len(), &mut low, &mut high);
-    told(is, low, high)
-}
-
-/// The bytes, and how many of them count. What follows them is zero up to 16, and untouched from there on.
-pub fn to_att(uuid: Number) -> Result<([u8; 16], usize), String> {
-    let (low, high) = halves(uuid);
-    let mut out = [UNTOUCHED_BYTE; 20];
-    let len = raw::leaf_to_att(low, high, out.as_mut_ptr(), out.len());
-    let mut bytes = [0; 16];
-    bytes.copy_from_slice(&out[..16]);
-    if len > 16 || bytes[len..].iter().any(|b| *b != 0) || out[16..] != [UNTOUCHED_BYTE; 4] {
-        return Err(format!("length {len}, bytes {out:02x?}"));
+    fn word(&mut self) -> u64 {
+        u64::from_le_bytes(self.bytes())
     }
-    Ok((bytes, len))
-}
 
-pub fn lists_service(data: &[u8], uuid: Number) -> bool {
-    let (low, high) = halves(uuid);
-    raw::barleyrope_lists_service(data.as_ptr(), data.len(), low, high)
-}
+    /// The two words that a call told, which it has to leave alone where there is nothing.
+    fn pair(&mut self) -> Result<Option<(u64, u64)>, String> {
+        let (is, first, second) = (self.word(), self.word(), self.word());
+        match (is, first, second) {
+            (1, _, _) => Ok(Some((first, second))),
+            (0, UNTOUCHED, UNTOUCHED) => Ok(None),
+            _ => Err(format!("answer {is}, and the places became {first:016x} {second:016x}")),
+        }
+    }
 
-pub fn find_service(data: &[u8], uuid: Number) -> Result<Option<(usize, usize)>, String> {
-    let (low, high) = halves(uuid);
-    let (mut start, mut count) = (UNTOUCHED, UNTOUCHED);
-    let is = raw::barleyrope_find_service(data.as_ptr(), data.len(), low, high, &mut start, &mut count);
-    place(is, start, count)
-}
+    fn uuid(&mut self) -> Result<Option<Number>, String> {
+        let halves = self.pair()?;
+        Ok(halves.map(|(low, high)| Number::from(high) << 64 | Number::from(low)))
+    }
 
-/// The matched body's bytes are put into `out`, which has room for any body.
-pub fn listed_body(data: &[u8], response: &[u8], uuid: Number, out: &mut [u8; 256]) -> usize {
-    let (low, high) = halves(uuid);
-    raw::leaf_listed_body(
-        data.as_ptr(),
-        data.len(),
-        response.as_ptr(),
-        response.len(),
-        low,
-        high,
-        out.as_mut_ptr(),
-        out.len(),
-    )
-}
+    fn place(&mut self) -> Result<Option<(usize, usize)>, String> {
+        let place = self.pair()?;
+        Ok(place.map(|(start, count)| (start as usize, count as usize)))
+    }
 
-pub fn local_name(data: &[u8]) -> Result<Option<(usize, usize)>, String> {
-    let (mut start, mut count) = (UNTOUCHED, UNTOUCHED);
-    let is = raw::leaf_local_name(data.as_ptr(), data.len(), &mut start, &mut count);
-    place(is, start, count)
-}
+    pub fn parse(&mut self) -> Result<Option<Number>, String> {
+        self.uuid()
+    }
 
-pub fn params_good([min, max, latency, timeout]: [u16; 4]) -> bool {
-    raw::barleyrope_params_good(min, max, latency, timeout)
+    pub fn from_att(&mut self) -> Result<Option<Number>, String> {
+        self.uuid()
+    }
+
+    /// The bytes, and how many of them count. What follows them is zero up to 16, and untouched from there on.
+    pub fn to_att(&mut self) -> Result<([u8; 16], usize), String> {
+        let len = self.word() as usize;
+        let out = self.bytes::<ATT_ROOM>();
+        let mut bytes = [0; 16];
+        bytes.copy_from_slice(&out[..16]);
+        if len > 16 || bytes[len..].iter().any(|b| *b != 0) || out[16..] != [UNTOUCHED_BYTE; ATT_ROOM - 16] {
+            return Err(format!("length {len}, bytes {out:02x?}"));
+        }
+        Ok((bytes, len))
+    }
+
+    pub fn lists_service(&mut self) -> bool {
+        self.word() == 1
+    }
+
+    pub fn find_service(&mut self) -> Result<Option<(usize, usize)>, String> {
+        self.place()
+    }
+
+    /// How long the matched body is, and its bytes in a room for any body; what follows them is untouched.
+    pub fn listed_body(&mut self) -> Result<(usize, [u8; BODY_ROOM]), String> {
+        let len = self.word() as usize;
+        let out = self.bytes::<BODY_ROOM>();
+        if len > BODY_ROOM || out[len..].iter().any(|b| *b != UNTOUCHED_BYTE) {
+            return Err(format!("length {len}, bytes {out:02x?}"));
+        }
+        Ok((len, out))
+    }
+
+    pub fn local_name(&mut self) -> Result<Option<(usize, usize)>, String> {
+        self.place()
+    }
+
+    pub fn params_good(&mut self) -> bool {
+        self.word() == 1
+    }
+
+    /// Whether nothing more comes.
+    pub fn at_end(&mut self) -> bool {
+        matches!(self.from.read(&mut [0]), Ok(0))
+    }
 }
