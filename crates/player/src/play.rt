@@ -23,6 +23,8 @@ const RESPONSE_ADDRESS_AT: usize = 8;
 
 const RESPONSE_DATA_AT: usize = 15;
 
+const FRAGMENT_AT: usize = 9;
+
 const UNSENT: Sent = Sent {
     frames: 0,
     bytes: 0,
@@ -113,6 +115,12 @@ fn respond(s: State, body: &[u8], store: &mut [u8]) -> Answer {
     quiet(state, a.refusal)
 }
 
+fn gather(s: State, body: &[u8], store: &mut [u8], out: &mut [u8]) -> Answer {
+    let start = is_set(body, record::START_AT);
+    let fragment = after(body, FRAGMENT_AT);
+    link::on_fragment(s, store, out, at_of(body), start, fragment)
+}
+
 // The store and the output keep their bytes at a fresh state: no answer may depend on them.
 fn play(s: State, tag: u8, body: &[u8], store: &mut [u8], out: &mut [u8]) -> Answer {
     match tag {
@@ -122,7 +130,7 @@ fn play(s: State, tag: u8, body: &[u8], store: &mut [u8], out: &mut [u8]) -> Ans
         record::CONNECTED => connect(s, body, store, out),
         record::DISCONNECTED => disconnect(s, body, store),
         record::SCAN_RESPONSE => respond(s, body, store),
-        _ => quiet(s, 0),
+        _ => gather(s, body, store, out),
     }
 }
 

@@ -79,6 +79,6 @@ pub fn answer(to: &mut [u8], tag: u8, why: u8, sent: Sent, out: &[u8]) -> bool {
         record::CONNECTED => sending(to, b"connected", why, sent, out),
         record::DISCONNECTED => refusal(to, b"disconnected", why),
         record::SCAN_RESPONSE => refusal(to, b"scan_response", why),
-        _ => line::whole(to, b"fragment not yet"),
+        _ => sending(to, b"fragment", why, sent, out),
     }
 }
