@@ -1,26 +1,53 @@
--- 01's sample table, rows P1 to P7, as one table under one claim. P8 to P12, what a step or an ATT payload is answered with,
--- join as further kinds of row once the definitions that they speak of stand.
+-- 01's sample table, rows P1 to P12, as one table under one claim.
 use Prim.Native.Nat.{ℕ}
 use mathlib.Core.Path.{_≡_, refl}
 use mathlib.Core.List.{List, [], _∷_}
 use mathlib.Core.Bool.{Bool, true, false, _&&_, not}
+use lib.ListN.{take, replicate}
 use lib.Dec.{eqb}
 use Rattle.base.specs.Choice.{among}
 use Rattle.base.specs.Bytes.{le, leBytes, leAt}
+use Rattle.base.specs.Splice.{splice, moved}
 use Rattle.uuid.specs.Value.{short}
+use Rattle.time.specs.declared.Micros.{Micros}
+use Rattle.places.specs.Sizes.{storeSize, outputSize}
+use Rattle.queues.specs.Queue.{all}
 use Rattle.advertising.specs.Ad.{listsService, reading, chunks, widthOf, uuidOf, anyLists}
 use Rattle.params.specs.Params.{goodParams}
-use Rattle.wire.specs.Numbers.{cidSignaling}
-use Rattle.wire.specs.Frame.{l2capFrame}
-use Rattle.signaling.specs.Answer.{codeAnswer, signalingAnswer, signalingPayload}
+use Rattle.wire.specs.Numbers.{cidAtt, cidSignaling}
+use Rattle.wire.specs.Frame.{l2capFrame, framed}
+use Rattle.signaling.specs.Answer.{codeAnswer, signalingAnswer}
+use Rattle.characteristics.specs.Characteristic.{upFrom}
+use Rattle.state.specs.Central.{Central}
+use Rattle.state.specs.Fresh.{freshCentral}
+use Rattle.state.specs.declared.Step.{Step}
+use Rattle.state.specs.declared.Step.the-variants.{ExchangeMtu, DiscoverServices}
+use Rattle.fit.specs.Fit.{countsFit, fits}
+use Rattle.fit.specs.Gate.{firstRefusal}
+use Rattle.fit.specs.Steps.{stepFits}
+use Rattle.turns.specs.Send.{send, request}
+use Rattle.waiting.specs.Waiting.{pushOne, pushAll, takeStep}
+use Rattle.discovery.specs.Discovery.{discoverServices}
+use Rattle.starts.specs.Start.{startLinked, start}
+use Rattle.script.specs.Script.{advances, advance}
+use Rattle.calls.specs.Outcome.{Outcome}
+use Rattle.batch.specs.Batch.{batchFits, countersFit, gateBatch, pushSteps}
+use Rattle.events.specs.Events.{connect, onConnected}
+use Rattle.replies.specs.Replies.{reply, onSignaling, refuse, exchange}
+use Rattle.att.specs.Att.{byOpcode, onAtt}
+use Rattle.att.specs.Channel.{onChannel}
+use Rattle.fragments.specs.Fragment.{gathered, heldFits, gateFragment}
+use Rattle.link.specs.Link.{frameRead, gather, hear, onFragment}
 
 pub data Row : Type 0 where
   -- advertising data, a 16-bit service, and whether the data lists it
   Lists : List ℕ → ℕ → Bool → Row
   -- min, max, latency and timeout of a connection parameter request, and whether they are good
   Parameters : ℕ → ℕ → ℕ → ℕ → Bool → Row
-  -- a payload of the signaling channel, and the frame that goes back
-  Signaling : List ℕ → List ℕ → Row
+  -- a step that is given on a new link, and the frame that goes out
+  Begins : Step → List ℕ → Row
+  -- a channel and a payload that comes on a new link, the frame that goes back, and the MTU then
+  Comes : ℕ → List ℕ → List ℕ → ℕ → Row
 
 unfoldable pub table : List Row
 table =
@@ -33,16 +60,57 @@ table =
     -- P4
     ∷ Lists (0x03 ∷ 0x03 ∷ 0x0F ∷ []) 0x180F false
     -- P5: code 12, id 7, 8 bytes follow: min 6, max 6, latency 0, timeout 10
-    ∷ Signaling
+    ∷ Comes cidSignaling
     (0x12 ∷ 0x07 ∷ 0x08 ∷ 0x00 ∷ 0x06 ∷ 0x00 ∷ 0x06 ∷ 0x00 ∷ 0x00 ∷ 0x00 ∷ 0x0A ∷ 0x00 ∷ [])
     (0x06 ∷ 0x00 ∷ 0x05 ∷ 0x00 ∷ 0x13 ∷ 0x07 ∷ 0x02 ∷ 0x00 ∷ 0x00 ∷ 0x00 ∷ [])
+    23
     -- P6
     ∷ Parameters 6 3200 0 800 false
     ∷ Parameters 6 3200 0 801 true
     -- P7
     ∷ Parameters 6 6 499 750 false
     ∷ Parameters 6 6 499 751 true
+    -- P8
+    ∷ Begins (ExchangeMtu 10) (0x03 ∷ 0x00 ∷ 0x04 ∷ 0x00 ∷ 0x02 ∷ 0x17 ∷ 0x00 ∷ [])
+    -- P9
+    ∷ Comes cidAtt (0x02 ∷ 0x05 ∷ 0x00 ∷ []) (0x03 ∷ 0x00 ∷ 0x04 ∷ 0x00 ∷ 0x03 ∷ 0xF7 ∷ 0x00 ∷ []) 23
+    -- P10
+    ∷ Begins DiscoverServices (0x07 ∷ 0x00 ∷ 0x04 ∷ 0x00 ∷ 0x10 ∷ 0x01 ∷ 0x00 ∷ 0xFF ∷ 0xFF ∷ 0x00 ∷ 0x28 ∷ [])
+    -- P11
+    ∷ Comes cidAtt (0x0A ∷ 0x03 ∷ 0x00 ∷ []) (0x05 ∷ 0x00 ∷ 0x04 ∷ 0x00 ∷ 0x01 ∷ 0x0A ∷ 0x03 ∷ 0x00 ∷ 0x01 ∷ []) 23
+    -- P12
+    ∷ Comes cidAtt (0x20 ∷ []) (0x05 ∷ 0x00 ∷ 0x04 ∷ 0x00 ∷ 0x01 ∷ 0x20 ∷ 0x00 ∷ 0x00 ∷ 0x06 ∷ []) 23
     ∷ []
+
+-- ---- calls, as the definitions have them
+
+abbrev pub noTime : Micros
+noTime = record { 0 = 0 }
+
+-- what is lent
+abbrev pub store : List ℕ
+store = replicate storeSize 0
+
+abbrev pub output : List ℕ
+output = replicate outputSize 0
+
+-- a fresh state to which a link came
+unfoldable pub onLink : Central
+onLink = onConnected freshCentral store output 0 noTime .state
+
+-- a batch of one step
+unfoldable pub given : Step → Outcome
+given step = pushSteps onLink store output noTime (record { steps = record { step = step; place = 0; len = 0 } ∷ []; count = 1 }) []
+
+-- one fragment that is a whole frame
+unfoldable pub come : ℕ → List ℕ → Outcome
+come channel payload = onFragment onLink store output noTime true (l2capFrame channel payload)
+
+-- all that went out
+abbrev pub out : Outcome → List ℕ
+out o = take (o .sent .bytes) (o .out)
+
+-- ---- the claim
 
 unfoldable pub same : Bool → Bool → Bool
 same true b = b
@@ -58,7 +126,10 @@ sameBytes (x ∷ xs) (y ∷ ys) = eqb x y && sameBytes xs ys
 unfoldable pub holds : Row → Bool
 holds (Lists bytes service listed) = same (listsService (short service) bytes) listed
 holds (Parameters min max latency timeout good) = same (goodParams min max latency timeout) good
-holds (Signaling payload frame) = sameBytes (l2capFrame cidSignaling (signalingPayload (signalingAnswer payload))) frame
+holds (Begins step frame) = sameBytes (out (given step)) frame
+holds (Comes channel payload frame mtu) =
+    let o = come channel payload in
+    sameBytes (out o) frame && eqb (o .state .bearer .link .mtu) mtu
 
 unfoldable pub agree : List Row → Bool
 agree [] = true
@@ -84,4 +155,47 @@ unfolding
     le
     leBytes
     leAt
+    onLink
+    given
+    come
+    splice
+    moved
+    all
+    framed
+    upFrom
+    freshCentral
+    countsFit
+    fits
+    firstRefusal
+    stepFits
+    send
+    request
+    pushOne
+    pushAll
+    takeStep
+    discoverServices
+    startLinked
+    start
+    advances
+    advance
+    batchFits
+    countersFit
+    gateBatch
+    pushSteps
+    connect
+    onConnected
+    reply
+    onSignaling
+    refuse
+    exchange
+    byOpcode
+    onAtt
+    onChannel
+    gathered
+    heldFits
+    gateFragment
+    frameRead
+    gather
+    hear
+    onFragment
 table-holds = refl
