@@ -282,8 +282,8 @@ impl Single<'_> {
         if !answers.ended {
             return verdict;
         }
-        let ended = self.running.take().map(|(_, _, mut child)| child.wait());
-        differ("an answer", ended)
+        let status = self.running.take().and_then(|(_, _, mut child)| child.wait().ok());
+        differ("an answer", format!("ended without one, status {status:?}"))
     }
 
     fn differs(&mut self, leaf: &Leaf, c: &Case) -> bool {
@@ -365,6 +365,8 @@ fn report(leaf: &Leaf, c: &Case, port: &mut Single) -> ! {
     show(leaf, &small);
     if let Differ { rust, port } = port.verdict(leaf, &small) {
         println!("  the Rust    {rust}\n  the port    {port}");
+    } else {
+        println!("  asked alone, both answer alike: the port answers by what it was asked before, or not once each time");
     }
     println!("found at:");
     show(leaf, c);
