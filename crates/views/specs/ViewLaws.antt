@@ -25,7 +25,7 @@ use Rattle.views.specs.declared.Response.{Response}
 use Rattle.views.specs.declared.Response.the-variants as response
 use Rattle.views.specs.declared.Seen.{Seen}
 use Rattle.views.specs.declared.Seen.the-variants as seen
-use Rattle.views.specs.View.{span, nowhere, responseIn, reportOf, view, dataIn, spanOf, answerIn, part, partAt, bodySeen, bodySeenAt}
+use Rattle.views.specs.View.{span, nowhere, responseIn, reportOf, view, dataIn, spanOf, answerIn, part, partAt, bodySeen, bodySeenAt, viewRefusal}
 
 -- ---- the ways to an answer
 
@@ -116,3 +116,15 @@ part-told s p d e f =
 pub body-told : (u : ℕ) (s : List ℕ) (p : ℕ × ℕ) (x : Seen) (d r : RefT (List ℕ)) → now d ≡ part s (dataIn x) → d .ptr ≡ partAt p (dataIn x) → now r ≡ part s (answerIn x) → r .ptr ≡ partAt p (answerIn x)
     → (b : List ℕ) (q : ℕ × ℕ) → b ≡ listedBody u (now d) (now r) → q ≡ listedAt u d r → (b ≡ bodySeen u s x) × (q ≡ bodySeenAt u s p x)
 body-told u s p x d r e₁ e₂ e₃ e₄ b q f g = (f ∙ rw (e₁, e₃), g ∙ rw (e₁, e₂, e₃, e₄))
+
+-- ---- the refusal of what is seen is the gate's
+
+pub view-refusal : (c : Central) (store i : ℕ) → viewRefusal (view c store i) ≡ gateReader c store
+unfolding view
+view-refusal c store i = go (eqb (gateReader c store) 0) refl (ltb i (c .reports .count))
+  where
+    go : (b : Bool) → eqb (gateReader c store) 0 ≡ b → (d : Bool)
+        → viewRefusal (pick b (pick d (seen.Is (reportOf (c .reports) i)) seen.Nothing) (seen.Refused (gateReader c store))) ≡ gateReader c store
+    go true e true = sym (eqb-true (gateReader c store) 0 e)
+    go true e false = sym (eqb-true (gateReader c store) 0 e)
+    go false e d = refl
