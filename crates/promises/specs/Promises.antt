@@ -2,7 +2,7 @@
 --
 -- `taken`: every step ever taken in, counted from the calls; `log`: every result ever given, dropped ones too, with its value, read off the
 -- tables of the worlds that the calls pass through (trails/specs/Log.antt). `events`: what came in, the requests among the bytes written,
--- and the results, in their order (asks/specs/Events.antt). `OnWire`: wires/specs/Wire.antt.
+-- and the results, in their order (asks/specs/Events.antt). `OnWire`: wires/specs/Wire.antt. `handedIn`, `notices`: tallies/specs/Tally.antt.
 use Prim.Native.Nat.{ℕ, zero, suc, _+_, _-_, _<_}
 use mathlib.Core.Path.{_≡_, refl, sym, ap, _∙_}
 use mathlib.Core.Bool.{true}
@@ -26,6 +26,8 @@ use Rattle.trails.specs.Log.{keptResults, log, taken}
 use Rattle.books.specs.InLine.{inLine}
 use Rattle.books.proofs.Numbered.{Numbered}
 use Rattle.books.proofs.Accounting.{fresh, books}
+use Rattle.tallies.specs.Tally.{handedIn, notices}
+use Rattle.tallies.proofs.Counted as tally
 use Rattle.wires.specs.Wire.{OnWire}
 use Rattle.wires.proofs.OnWire.{on-wire}
 use Rattle.asks.specs.Events.{events, Awaited, Answered}
@@ -79,3 +81,10 @@ module _ (store : List ℕ) (cs : List Call) where
 
   pub never-unfit : fitness.Typed cs → (c : Call) → does (run (fresh store) cs) c .refusal ≡ unfit → ⊥
   never-unfit = fitness.never-unfit store cs
+
+  -- 7. Two counts are the calls' own: the steps handed in that found no place, and the notifications and indications that were heard.
+  pub refused-counted : run (fresh store) cs .state .counters .«refused_steps» + length (taken (fresh store) cs) ≡ handedIn (fresh store) cs
+  refused-counted = tally.refused-counted store cs
+
+  pub notified-counted : run (fresh store) cs .state .counters .notified ≡ notices (fresh store) cs
+  notified-counted = tally.notified-counted store cs

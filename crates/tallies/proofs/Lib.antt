@@ -1,0 +1,4 @@
+pub mod Kept
+pub mod Channels
+pub mod Pushed
+pub mod Counted
