@@ -13,7 +13,6 @@ use calls::Answer;
 use calls::QuietAnswer;
 use fit::refusal;
 use state::Bearer;
-use state::Link;
 use state::Running;
 use state::State;
 use state::Step;
@@ -97,17 +96,15 @@ pub fn on_timer(state: State, store: &mut [u8], out: &mut [u8], at: Micros) -> A
 
 // ---- a link comes
 
-fn linked(handle: u16) -> Bearer
+// A new link, whatever stood there.
+fn linked(b: Bearer, handle: u16) -> Bearer
     ensures { λ r. ⌜ r ≡ linked handle ⌝ }
 {
+    let was = b.link;
+    let link = lent::opened(was, handle);
     Bearer {
         held: 0,
-        link: Link {
-            handle,
-            mtu: fit::MIN_MTU,
-            pending: 0,
-            terminating: false,
-        },
+        link,
         present: true,
     }
 }
@@ -166,7 +163,8 @@ fn connect(t: Turn, store: &mut [u8], out: &mut [u8], handle: u16, at: Micros) -
 {
     let s = t.state;
     let sent = t.sent;
-    let a = state::parts::with_bearer(s, linked(handle));
+    let b = state::parts::bearer_of(s);
+    let a = state::parts::with_bearer(s, linked(b, handle));
     let state = greet(a, store, at);
     let u = Turn { state, sent };
     script::advance(u, store, out, at)

@@ -4,8 +4,8 @@ use mathlib.Core.List.{List}
 use Rattle.places.specs.Sizes.{heldAt}
 use Rattle.queues.specs.Blocks.{bytes}
 use Rattle.state.specs.Central.{Central, withBearer}
-use Rattle.state.specs.declared.Link.{Link}
 use Rattle.turns.specs.World.{Held, World}
+pub use Rattle.lent.specs.Record.{agreed}
 use Rattle.turns.specs.Finish.{withLink}
 use Rattle.turns.specs.Ready.{Ready}
 use Rattle.keeps.specs.Nearly.{Nearly}
@@ -29,9 +29,6 @@ pub record Reads (n : ℕ) (w : World) : Type 0 where
   pub short : n ≤ payloadSize
 
 -- ---- the link's MTU
-
-abbrev pub agreed : Link → ℕ → Link
-agreed l mtu = record { handle = l .handle; mtu = mtu; pending = l .pending; terminating = l .terminating }
 
 abbrev pub withMtu : Central → ℕ → Central
 withMtu c mtu = withBearer c (withLink (c .bearer) (agreed (c .bearer .link) mtu))

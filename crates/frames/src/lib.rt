@@ -5,8 +5,7 @@ ghost use lib.ListN.{length, getD};
 ghost use Rattle.base.specs.Bytes.{leAt};
 ghost use Rattle.queues.specs.Blocks.{bytes};
 ghost use Rattle.state.specs.Central.{central};
-ghost use Rattle.frames.specs.Payload.{payloadAt, agreed, withMtu};
-use state::Link;
+ghost use Rattle.frames.specs.Payload.{payloadAt, withMtu};
 use state::State;
 
 // Behind the length and the channel.
@@ -37,19 +36,11 @@ pub fn number(store: &[u8], n: usize, i: usize) -> u16
     base::le16(&store[PAYLOAD_AT..end], i)
 }
 
-fn agreed(link: Link, mtu: u16) -> Link
-    ensures { λ r. ⌜ r ≡ agreed link mtu ⌝ }
-{
-    let mut l = link;
-    l.mtu = mtu;
-    l
-}
-
 // The link has this MTU from now on.
 pub fn with_mtu(s: State, mtu: u16) -> State
     ensures { λ r. ⌜ central r ≡ withMtu (central s) mtu ⌝ }
 {
     let bearer = state::parts::bearer_of(s);
     let link = bearer.link;
-    state::parts::with_bearer(s, turns::with_link(bearer, agreed(link, mtu)))
+    state::parts::with_bearer(s, turns::with_link(bearer, lent::agreed(link, mtu)))
 }

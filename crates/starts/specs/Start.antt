@@ -22,7 +22,6 @@ use Rattle.characteristics.specs.declared.Cccd.the-variants as cccd
 use Rattle.characteristics.specs.declared.Which.{Which}
 use Rattle.characteristics.specs.declared.Which.the-variants.{At, Nothing}
 use Rattle.state.specs.Central.{Central, withRunning, withBearer, withServices, withCharacteristics}
-use Rattle.state.specs.declared.Link.{Link}
 use Rattle.state.specs.declared.Sent.{Sent}
 use Rattle.state.specs.declared.LinkRequest.the-variants.{Terminate}
 use Rattle.state.specs.declared.Step.{Step}
@@ -31,6 +30,7 @@ use Rattle.state.specs.declared.StepStatus.{StepStatus}
 use Rattle.state.specs.declared.StepStatus.the-variants.{Ok, NotConnected, NotFound, TooLong}
 use Rattle.fit.specs.Steps.{leastMtu, carries}
 use Rattle.turns.specs.World.{Held, Told, World, onHeld, onTold, onState}
+pub use Rattle.lent.specs.Record.{terminated}
 use Rattle.turns.specs.Finish.{withLink, finish}
 use Rattle.turns.specs.Send.{until, send, request}
 use Rattle.discovery.specs.Discovery.{discoverServices, discoverCharacteristics}
@@ -119,9 +119,6 @@ read w at (At x) = request w at (readReq (x .«value_handle»))
 -- Remote User Terminated Connection, Core Vol 1 Part F 1.3
 abbrev pub remoteUserTerminated : ℕ
 remoteUserTerminated = 0x13
-
-abbrev pub terminated : Link → Link
-terminated l = record { handle = l .handle; mtu = l .mtu; pending = l .pending; terminating = true }
 
 abbrev pub asksTo : Told → Told
 asksTo t = record { sent = record { frames = t .sent .frames; bytes = t .sent .bytes; request = Terminate remoteUserTerminated }; out = t .out }

@@ -11,7 +11,7 @@ ghost use Rattle.state.specs.Central.{central};
 ghost use Rattle.turns.specs.World.{held, world, onHeld, onState};
 ghost use Rattle.turns.specs.Ready.{Ready};
 ghost use Rattle.starts.specs.Wait.{Looks, waitPasses, passed, checkOne, awaited, checkFor, checkWait};
-ghost use Rattle.starts.specs.Start.{ends, waitsFor, unlinkedStep, startAlone, startUnlinked, forgotten, discoverIn, configuration, subscribeAt, subscribe, commanded, write, read, terminated, disconnect, carried, startLinked, start};
+ghost use Rattle.starts.specs.Start.{ends, waitsFor, unlinkedStep, startAlone, startUnlinked, forgotten, discoverIn, configuration, subscribeAt, subscribe, commanded, write, read, disconnect, carried, startLinked, start};
 ghost use Rattle.characteristics.specs.declared.Which.the-variants.{At};
 ghost use Rattle.characteristics.specs.Characteristic.{known, characteristicWith};
 ghost use Rattle.turns.specs.Send.{Room, request};
@@ -24,7 +24,6 @@ use characteristics::Cccd;
 use characteristics::Characteristic;
 use services::Service;
 use state::Counters;
-use state::Link;
 use state::LinkRequest;
 use state::Sent;
 use state::State;
@@ -299,7 +298,10 @@ fn start_disconnect(t: Turn) -> Turn
     if link.terminating {
         t
     } else {
-        let next = state::parts::with_bearer(state, turns::with_link(bearer, terminate(link)));
+        let next = state::parts::with_bearer(
+            state,
+            turns::with_link(bearer, lent::terminated(link)),
+        );
         Turn {
             state: next,
             sent: Sent {
@@ -311,14 +313,6 @@ fn start_disconnect(t: Turn) -> Turn
             },
         }
     }
-}
-
-fn terminate(link: Link) -> Link
-    ensures { λ r. ⌜ r ≡ terminated link ⌝ }
-{
-    let mut l = link;
-    l.terminating = true;
-    l
 }
 
 fn subscribe_at(

@@ -15,6 +15,7 @@ use Rattle.state.specs.declared.Bearer.{Bearer}
 use Rattle.state.specs.declared.StepResult.{StepResult}
 use Rattle.state.specs.declared.StepStatus.{StepStatus}
 use Rattle.state.specs.declared.Results.{Results}
+pub use Rattle.lent.specs.Record.{answered}
 use Rattle.turns.specs.World.{Held, onState}
 
 -- the results' part of the store
@@ -34,10 +35,6 @@ pushedResult rs r =
 -- no step runs
 abbrev pub idle : Running → Running
 idle r = record { deadline = r .deadline; step = r .step; index = r .index; cursor = r .cursor; len = r .len; phase = r .phase; active = false; dated = r .dated }
-
--- no response is awaited
-abbrev pub answered : Link → Link
-answered l = record { handle = l .handle; mtu = l .mtu; pending = 0; terminating = l .terminating }
 
 abbrev pub withLink : Bearer → Link → Bearer
 withLink b l = record { held = b .held; link = l; present = b .present }

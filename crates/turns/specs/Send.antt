@@ -9,8 +9,8 @@ use Rattle.wire.specs.Numbers.{cidAtt}
 use Rattle.wire.specs.Frame.{Written, framed}
 use Rattle.state.specs.Central.{Central, withRunning, withBearer}
 use Rattle.state.specs.declared.Running.{Running}
-use Rattle.state.specs.declared.Link.{Link}
 use Rattle.state.specs.declared.Sent.{Sent}
+pub use Rattle.lent.specs.Record.{awaiting}
 use Rattle.turns.specs.World.{Held, Told, World, onHeld, onTold, onState}
 use Rattle.turns.specs.Finish.{withLink}
 
@@ -31,10 +31,6 @@ send t channel payload = more (t .sent) (framed (t .out) (t .sent .bytes) channe
 -- the running step has a deadline
 abbrev pub until : Running → Micros → Running
 until r at = record { deadline = at; step = r .step; index = r .index; cursor = r .cursor; len = r .len; phase = r .phase; active = r .active; dated = true }
-
--- the response to a request is awaited
-abbrev pub awaiting : Link → ℕ → Link
-awaiting l opcode = record { handle = l .handle; mtu = l .mtu; pending = opcode; terminating = l .terminating }
 
 -- the state once a request of this opcode has gone out now
 abbrev pub asked : Central → Micros → ℕ → Central

@@ -7,7 +7,7 @@ ghost use Rattle.queues.specs.Blocks.{stored};
 ghost use Rattle.places.specs.Sizes.{heldAt, storeSize, resultSize, mostResults};
 ghost use Rattle.turns.specs.World.{held, told, world};
 ghost use Rattle.turns.specs.Finish.{resultPart, pushedResult, idle, answered, withLink, finish};
-ghost use Rattle.turns.specs.Send.{Room, send, until, awaiting, asked, request};
+ghost use Rattle.turns.specs.Send.{Room, send, until, asked, request};
 ghost use Rattle.wire.specs.Numbers.{cidAtt};
 ghost use Rattle.wire.specs.Frame.{attPdu};
 ghost use Rattle.state.specs.Central.{central};
@@ -85,9 +85,7 @@ fn idle(r: Running) -> Running
 pub fn answered(link: Link) -> Link
     ensures { λ r. ⌜ r ≡ answered link ⌝ }
 {
-    let mut l = link;
-    l.pending = 0;
-    l
+    lent::answered(link)
 }
 
 pub fn with_link(b: Bearer, link: Link) -> Bearer
@@ -191,15 +189,6 @@ pub fn until(r: Running, at: Micros) -> Running
     o
 }
 
-// The response to a request of this opcode is awaited.
-pub fn awaiting(link: Link, opcode: u8) -> Link
-    ensures { λ r. ⌜ r ≡ awaiting link opcode ⌝ }
-{
-    let mut l = link;
-    l.pending = opcode;
-    l
-}
-
 // A request of this opcode has gone out now.
 pub fn asked(s: State, at: Micros, opcode: u8) -> State
     ensures { λ r. ⌜ central r ≡ asked (central s) at opcode ⌝ }
@@ -208,7 +197,7 @@ pub fn asked(s: State, at: Micros, opcode: u8) -> State
     let bearer = state::parts::bearer_of(s);
     let link = bearer.link;
     let a = state::parts::with_running(s, until(running, time::att_deadline(at)));
-    state::parts::with_bearer(a, with_link(bearer, awaiting(link, opcode)))
+    state::parts::with_bearer(a, with_link(bearer, lent::awaiting(link, opcode)))
 }
 
 // An ATT request goes out now.

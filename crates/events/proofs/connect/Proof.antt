@@ -7,7 +7,12 @@ use Rattle.events.proofs.connect.Lts as lts
 use Rattle.events.proofs.greet.Reads as greet-reads
 use Rattle.events.proofs.linked.Reads as linked-reads
 use Rattle.script.proofs.advance.Reads as advance-reads
+use Rattle.state.proofs.parts.bearer_of.Reads as bearer-of-reads
 use Rattle.state.proofs.parts.with_bearer.Reads as with-bearer-reads
+
+-- src/lib.rt:165:13
+bearer-of-requires : tie.Need-bearer-of-requires
+bearer-of-requires c κs = search needs
 
 -- src/lib.rt:169:42
 linked-requires : tie.Need-linked-requires
@@ -19,11 +24,11 @@ with-bearer-requires c κs = search needs
 
 -- src/lib.rt:170:9
 greet-requires : tie.Need-greet-requires
-greet-requires c κs = connect-fits (c .before .before .before .before .before .before .before .args .t) (c .before .before .before .before .before .before .before .args .store .now) (c .before .before .before .before .before .before .before .args .out .now) (c .before .before .before .before .before .before .before .args .handle) (c .before .before .before .before .before .before .before .args .at) _ (c .before .before .linked .ensures) _ (c .before .with-bearer .ensures) (c .before .before .before .before .before .before .before .pre .0)
+greet-requires c κs = connect-fits (c .before .before .before .before .before .before .before .before .args .t) (c .before .before .before .before .before .before .before .before .args .store .now) (c .before .before .before .before .before .before .before .before .args .out .now) (c .before .before .before .before .before .before .before .before .args .handle) (c .before .before .before .before .before .before .before .before .args .at) _ (c .before .before .linked .ensures) _ (c .before .with-bearer .ensures) (c .before .before .before .before .before .before .before .before .pre .0)
 
 -- src/lib.rt:172:5
 advance-requires : tie.Need-advance-requires
-advance-requires c κs = (connect-may (c .before .before .before .before .before .before .before .before .before .before .before .before .args .t) (c .before .before .before .before .before .before .before .before .before .before .before .before .args .store .now) (c .before .before .before .before .before .before .before .before .before .before .before .before .args .out .now) (c .before .before .before .before .before .before .before .before .before .before .before .before .args .handle) (c .before .before .before .before .before .before .before .before .before .before .before .before .args .at) _ (c .before .before .before .before .before .before .before .linked .ensures) _ (c .before .before .before .before .before .before .with-bearer .ensures) _ _ (c .before .before .before .before .greet .ensures) (c .before .before .before .before .before .before .before .before .before .before .before .before .pre .0), (c .before .before .before .before .before .before .before .before .before .before .before .before .pre .1))
+advance-requires c κs = (connect-may (c .before .before .before .before .before .before .before .before .before .before .before .before .before .args .t) (c .before .before .before .before .before .before .before .before .before .before .before .before .before .args .store .now) (c .before .before .before .before .before .before .before .before .before .before .before .before .before .args .out .now) (c .before .before .before .before .before .before .before .before .before .before .before .before .before .args .handle) (c .before .before .before .before .before .before .before .before .before .before .before .before .before .args .at) _ (c .before .before .before .before .before .before .before .linked .ensures) _ (c .before .before .before .before .before .before .with-bearer .ensures) _ _ (c .before .before .before .before .greet .ensures) (c .before .before .before .before .before .before .before .before .before .before .before .before .before .pre .0), (c .before .before .before .before .before .before .before .before .before .before .before .before .before .pre .1))
 
 -- src/lib.rt:163:1
 same-length : tie.Need-same-length
@@ -35,12 +40,13 @@ same-length-2 c = search needs
 
 -- src/lib.rt:163:1
 returns : tie.Need-returns
-returns c = connect-done (c .before .before .before .before .before .before .before .before .before .before .before .before .before .before .before .before .before .args .t) (c .before .before .before .before .before .before .before .before .before .before .before .before .before .before .before .before .before .args .store .now) (c .before .before .before .before .before .before .before .before .before .before .before .before .before .before .before .before .before .args .out .now) (c .before .before .before .before .before .before .before .before .before .before .before .before .before .before .before .before .before .args .handle) (c .before .before .before .before .before .before .before .before .before .before .before .before .before .before .before .before .before .args .at) _ (c .before .before .before .before .before .before .before .before .before .before .before .before .linked .ensures) _ (c .before .before .before .before .before .before .before .before .before .before .before .with-bearer .ensures) _ _ (c .before .before .before .before .before .before .before .before .before .greet .ensures) _ _ _ (c .before .before .before .before .advance .ensures)
+returns c = connect-done (c .before .before .before .before .before .before .before .before .before .before .before .before .before .before .before .before .before .before .args .t) (c .before .before .before .before .before .before .before .before .before .before .before .before .before .before .before .before .before .before .args .store .now) (c .before .before .before .before .before .before .before .before .before .before .before .before .before .before .before .before .before .before .args .out .now) (c .before .before .before .before .before .before .before .before .before .before .before .before .before .before .before .before .before .before .args .handle) (c .before .before .before .before .before .before .before .before .before .before .before .before .before .before .before .before .before .before .args .at) _ (c .before .before .before .before .before .before .before .before .before .before .before .before .linked .ensures) _ (c .before .before .before .before .before .before .before .before .before .before .before .with-bearer .ensures) _ _ (c .before .before .before .before .before .before .before .before .before .greet .ensures) _ _ _ (c .before .before .before .before .advance .ensures)
 
 pub connect-spec : {M : Type 1} → statement M
 connect-spec =
     tie.close
     (tie.spec
+    bearer-of-requires
     linked-requires
     with-bearer-requires
     greet-requires

@@ -4,7 +4,7 @@ use Rattle.frames.proofs.with_mtu.Statement.{statement}
 use Rattle.frames.proofs.with_mtu.Tie as tie
 use Rattle.frames.proofs.with_mtu.Reads as reads
 use Rattle.frames.proofs.with_mtu.Lts as lts
-use Rattle.frames.proofs.agreed.Reads as agreed-reads
+use Rattle.lent.proofs.agreed.Reads as agreed-reads
 use Rattle.state.proofs.parts.bearer_of.Reads as bearer-of-reads
 use Rattle.state.proofs.parts.with_bearer.Reads as with-bearer-reads
 use Rattle.turns.proofs.with_link.Reads as with-link-reads

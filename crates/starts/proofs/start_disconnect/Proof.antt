@@ -7,7 +7,7 @@ use Rattle.starts.proofs.start_disconnect.Statement.{statement}
 use Rattle.starts.proofs.start_disconnect.Tie as tie
 use Rattle.starts.proofs.start_disconnect.Reads as reads
 use Rattle.starts.proofs.start_disconnect.Lts as lts
-use Rattle.starts.proofs.terminate.Reads as terminate-reads
+use Rattle.lent.proofs.terminated.Reads as terminated-reads
 use Rattle.state.proofs.parts.bearer_of.Reads as bearer-of-reads
 use Rattle.state.proofs.parts.with_bearer.Reads as with-bearer-reads
 use Rattle.turns.proofs.with_link.Reads as with-link-reads
@@ -17,8 +17,8 @@ bearer-of-requires : tie.Need-bearer-of-requires
 bearer-of-requires c κs = search needs
 
 -- src/lib.rt:294:78
-terminate-requires : tie.Need-terminate-requires
-terminate-requires c κs = search needs
+terminated-requires : tie.Need-terminated-requires
+terminated-requires c κs = search needs
 
 -- src/lib.rt:294:53
 with-link-requires : tie.Need-with-link-requires
@@ -34,14 +34,14 @@ returns c = already _ _ (c .before .before .bearer-of .ensures) (c .if1 .taken)
 
 -- src/lib.rt:284:1
 returns-2 : tie.Need-returns-2
-returns-2 c = asks-to-end _ _ (c .before .before .before .before .before .bearer-of .ensures) _ _ _ (c .before .before .before .if1 .left) (c .before .before .terminate .ensures) (c .before .with-link .ensures) (c .with-bearer .ensures)
+returns-2 c = asks-to-end _ _ (c .before .before .before .before .before .bearer-of .ensures) _ _ _ (c .before .before .before .if1 .left) (c .before .before .terminated .ensures) (c .before .with-link .ensures) (c .with-bearer .ensures)
 
 pub start-disconnect-spec : {M : Type 1} → statement M
 start-disconnect-spec =
     tie.close
     (tie.spec
     bearer-of-requires
-    terminate-requires
+    terminated-requires
     with-link-requires
     with-bearer-requires
     returns

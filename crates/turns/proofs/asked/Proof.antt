@@ -10,7 +10,7 @@ use Rattle.state.proofs.parts.running_of.Reads as running-of-reads
 use Rattle.state.proofs.parts.with_bearer.Reads as with-bearer-reads
 use Rattle.state.proofs.parts.with_running.Reads as with-running-reads
 use Rattle.time.proofs.att_deadline.Reads as att-deadline-reads
-use Rattle.turns.proofs.awaiting.Reads as awaiting-reads
+use Rattle.lent.proofs.awaiting.Reads as awaiting-reads
 use Rattle.turns.proofs.until.Reads as until-reads
 use Rattle.turns.proofs.with_link.Reads as with-link-reads
 
