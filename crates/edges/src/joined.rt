@@ -1,0 +1,63 @@
+// A wait looks for its bytes in all that one handle notified, joined.
+use crate::known;
+use state::State;
+use state::Step;
+use time::Micros;
+use time::Millis;
+
+const AWAITED: [u8; 2] = [0x52, 0x45];
+
+// Notifications: `46 52` and `45 45` on the characteristic's handle, `45 45` on another.
+const FIRST: [u8; 9] = [0x05, 0x00, 0x04, 0x00, 0x1B, 0x03, 0x00, 0x46, 0x52];
+
+const SECOND: [u8; 9] = [0x05, 0x00, 0x04, 0x00, 0x1B, 0x03, 0x00, 0x45, 0x45];
+
+const ELSEWHERE: [u8; 9] = [0x05, 0x00, 0x04, 0x00, 0x1B, 0x06, 0x00, 0x45, 0x45];
+
+// The wait begins.
+fn begin(s: State, store: &mut [u8], out: &mut [u8]) -> State {
+    let bytes = AWAITED;
+    let step = Step::WaitNotification {
+        characteristic: known::LEVEL,
+        within_ms: Millis(1000),
+    };
+    say::told(
+        b"A wait on handle ",
+        known::LEVEL_HANDLE as u64,
+        b" for bytes that contain",
+    );
+    say::bytes(&bytes);
+    let a = batch::push_steps(s, store, out, Micros(1000), known::one(step, 2), &bytes);
+    let state = a.state;
+    say::told(b": refusal ", a.refusal as u64, b"\n");
+    state
+}
+
+// A notification comes in: whether the wait is over.
+fn hear(s: State, store: &mut [u8], out: &mut [u8], at: Micros, frame: &[u8]) -> State {
+    tells::heard(frame);
+    let a = link::on_fragment(s, store, out, at, true, frame);
+    let state = a.state;
+    say::told(b"    refusal ", a.refusal as u64, b"\n");
+    if !tells::result(0, readers::result(state, store, 0), store) {
+        say::line(b"    step 0 waits on");
+    }
+    state
+}
+
+fn pair(second: &[u8]) {
+    let mut store = [0u8; places::STORE_SIZE];
+    let mut out = [0u8; places::OUTPUT_SIZE];
+    let first = FIRST;
+    let linked = known::linked(&mut store, &mut out);
+    let s = begin(linked, &mut store, &mut out);
+    let a = hear(s, &mut store, &mut out, Micros(2000), &first);
+    hear(a, &mut store, &mut out, Micros(3000), second);
+}
+
+pub fn all() {
+    let second = SECOND;
+    let elsewhere = ELSEWHERE;
+    pair(&second);
+    pair(&elsewhere);
+}

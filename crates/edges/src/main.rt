@@ -1,0 +1,16 @@
+// Edges that are shown by running them, as 01 asks: a Write at the MTU, the scan keys at 128, the batch at 64, values that a wait
+// joins, a frame of 251 bytes. Prints what the calls gave.
+mod batches;
+mod held;
+mod joined;
+mod keys;
+mod known;
+mod writes;
+
+fn main() {
+    writes::all();
+    joined::all();
+    held::all();
+    keys::all();
+    batches::all();
+}

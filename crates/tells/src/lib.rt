@@ -1,0 +1,206 @@
+// What calls give, in plain words: frames, link requests, results, moments.
+mod pdu;
+
+use readers::Given;
+use state::Address;
+use state::LinkRequest;
+use state::Sent;
+use state::Step;
+use state::StepStatus;
+use time::Micros;
+use time::Millis;
+use uuid::Uuid;
+
+// A frame both ways: its bytes, and what it is.
+fn both_ways(verb: &[u8], s: &[u8]) {
+    say::text(verb);
+    say::bytes(s);
+    say::text(b": ");
+    pdu::name(s);
+    say::line(b"");
+}
+
+// A whole frame that comes in.
+pub fn heard(s: &[u8]) {
+    both_ways(b"    hears", s);
+}
+
+fn frame(s: &[u8]) {
+    both_ways(b"    sends", s);
+}
+
+// The frames among the first bytes of an output, one after another.
+fn frames(out: &[u8], bytes: usize) {
+    if out.len() < bytes {
+        return;
+    }
+    let mut at = 0;
+    while pdu::HEADER <= bytes - at {
+        let n = base::le16(out, at) as usize;
+        if bytes - at - pdu::HEADER < n {
+            return;
+        }
+        let end = at + pdu::HEADER + n;
+        frame(&out[at..end]);
+        at = end;
+    }
+}
+
+fn update(interval: u16, latency: u16, timeout: u16) {
+    say::told(
+        b"    asks for an update of the link: interval ",
+        interval as u64,
+        b"",
+    );
+    say::told(b", latency ", latency as u64, b"");
+    say::told(b", timeout ", timeout as u64, b"\n");
+}
+
+fn request(r: LinkRequest) {
+    match r {
+        LinkRequest::Nothing => (),
+        LinkRequest::Update {
+            interval,
+            latency,
+            timeout,
+        } => update(interval, latency, timeout),
+        LinkRequest::Terminate { reason } => {
+            say::told(
+                b"    asks for the end of the link, reason ",
+                reason as u64,
+                b"\n",
+            )
+        }
+    }
+}
+
+// What a call sent: each frame, and the link request if there is one.
+pub fn sent(s: Sent, out: &[u8]) {
+    frames(out, s.bytes);
+    let asked = s.request;
+    request(asked);
+}
+
+pub fn status(s: StepStatus) {
+    match s {
+        StepStatus::Ok => say::text(b"ok"),
+        StepStatus::Timeout => say::text(b"timeout"),
+        StepStatus::NotConnected => say::text(b"not connected"),
+        StepStatus::NotFound => say::text(b"not found"),
+        StepStatus::AttError(code) => say::told(b"ATT error ", code as u64, b""),
+        StepStatus::TooLong => say::text(b"too long"),
+        StepStatus::Disconnected => say::text(b"disconnected"),
+        StepStatus::TableFull => say::text(b"table full"),
+    }
+}
+
+// A moment in milliseconds.
+pub fn moment(at: Micros) {
+    let us = at.0;
+    say::number(us / 1000);
+    if us % 1000 != 0 {
+        say::told(b" ms and ", us % 1000, b" us");
+    } else {
+        say::text(b" ms");
+    }
+}
+
+// A result, and its value where it has one. Whether there was one.
+pub fn result(index: u32, g: Given, store: &[u8]) -> bool {
+    match g {
+        Given::Refused(why) => {
+            say::told(b"    result refused with ", why as u64, b"\n");
+            false
+        }
+        Given::Nothing => false,
+        Given::Is {
+            at,
+            status: how,
+            place,
+            len,
+        } => {
+            say::told(b"    step ", index as u64, b" ended: ");
+            status(how);
+            say::text(b", at ");
+            moment(at);
+            value(store, place, len);
+            say::line(b"");
+            true
+        }
+    }
+}
+
+fn value(store: &[u8], place: usize, len: usize) {
+    if len == 0 {
+        return;
+    }
+    if store.len() < len {
+        return;
+    }
+    if store.len() - len < place {
+        return;
+    }
+    let end = place + len;
+    let v = &store[place..end];
+    say::text(b", value");
+    say::bytes(v);
+    if utf8::is_utf8(v) {
+        say::text(b", as text: ");
+        say::text(v);
+    }
+}
+
+// An address as its number.
+pub fn address(a: Address) {
+    if a.random {
+        say::text(b"random ");
+    }
+    say::hex(a.high as u64, 4);
+    say::hex(a.low as u64, 8);
+}
+
+fn millis(before: &[u8], ms: Millis) {
+    say::told(before, ms.0 as u64, b" ms");
+}
+
+// What a step is to do.
+pub fn step(s: Step) {
+    match s {
+        Step::Scan { ms } => millis(b"Scan for ", ms),
+        Step::Connect {
+            target: _,
+            interval: _,
+            latency: _,
+            timeout: _,
+            within_ms,
+        } => millis(b"Connect within ", within_ms),
+        Step::ExchangeMtu { mtu } => say::told(b"ExchangeMtu ", mtu as u64, b""),
+        Step::DiscoverServices => say::text(b"DiscoverServices"),
+        Step::DiscoverCharacteristics { service } => named(b"DiscoverCharacteristics of ", service),
+        Step::Subscribe {
+            characteristic,
+            indicate: _,
+        } => named(b"Subscribe to ", characteristic),
+        Step::Write {
+            characteristic,
+            with_response: _,
+        } => named(b"Write to ", characteristic),
+        Step::Read { characteristic } => named(b"Read ", characteristic),
+        Step::WaitNotification {
+            characteristic,
+            within_ms,
+        } => {
+            named(b"WaitNotification of ", characteristic);
+            millis(b" within ", within_ms)
+        }
+        Step::Wait { ms } => millis(b"Wait for ", ms),
+        Step::Disconnect => say::text(b"Disconnect"),
+        Step::Capture { enabled: _ } => say::text(b"Capture"),
+        Step::CaptureSecrets { secrets: _ } => say::text(b"CaptureSecrets"),
+    }
+}
+
+fn named(before: &[u8], u: Uuid) {
+    say::text(before);
+    say::uuid(u);
+}
