@@ -37,10 +37,10 @@ use Rattle.keeps.specs.Nearly.{Nearly}
 use Rattle.keeps.proofs.Turns.{Stays, Goes, quietly, stays-finish, stays-bearer}
 use Rattle.keeps.proofs.Starts.{goes-services, goes-descriptors, goes-characteristics}
 use Rattle.frames.specs.Payload.{payloadAt, payloadSize, payload, withMtu}
-use Rattle.responses.specs.declared.Goal.{Goal}
-use Rattle.responses.specs.declared.Goal.the-variants as goal
-use Rattle.responses.specs.declared.Asked.{Asked}
-use Rattle.responses.specs.declared.Asked.the-variants as asked
+use Rattle.questions.specs.declared.Goal.{Goal}
+use Rattle.questions.specs.declared.Goal.the-variants as goal
+use Rattle.questions.specs.declared.Asked.{Asked}
+use Rattle.questions.specs.declared.Asked.the-variants as asked
 use Rattle.responses.specs.Responses.{askedBy, over, become, serviceOf, entriesOf, walkInto, servicesDone, servicesFound, servicesHeard, characteristicsFound, characteristicsHeard, afterRange, goOn, widthOf, descriptorsFound, descriptorsHeard, rangeDone, characteristicsDone, absent, smallerMtu, valueRead, present, failed, counts, unasked, taken, onResponse}
 use Rattle.holds.proofs.Work.{ready-stays, after, goes-pick, goes-not, goes-over}
 use Rattle.holds.proofs.Replies.{stays-mtu}

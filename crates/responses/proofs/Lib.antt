@@ -1,3 +1,1 @@
-pub mod AbleLaws
-pub mod WalkLaws
 pub mod ResponseLaws

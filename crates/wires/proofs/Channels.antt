@@ -31,10 +31,10 @@ use Rattle.turns.specs.Send.{send}
 use Rattle.discovery.specs.Discovery.{lastHandle}
 use Rattle.frames.specs.Payload.{payload}
 use Rattle.replies.specs.Replies.{reply, asksUpdate, onSignaling, onSmp, refuse, exchange, confirmed, notice}
-use Rattle.responses.specs.declared.Goal.{Goal}
-use Rattle.responses.specs.declared.Goal.the-variants as goal
-use Rattle.responses.specs.declared.Asked.{Asked}
-use Rattle.responses.specs.declared.Asked.the-variants as asked-variants
+use Rattle.questions.specs.declared.Goal.{Goal}
+use Rattle.questions.specs.declared.Goal.the-variants as goal
+use Rattle.questions.specs.declared.Asked.{Asked}
+use Rattle.questions.specs.declared.Asked.the-variants as asked-variants
 use Rattle.responses.specs.Responses.{askedBy, become, serviceOf, walkInto, servicesDone, servicesFound, servicesHeard, characteristicsFound, characteristicsHeard, afterRange, goOn, widthOf, descriptorsFound, descriptorsHeard, rangeDone, characteristicsDone, absent, present, failed, counts, unasked, taken, onResponse}
 use Rattle.att.specs.Att.{searches, accesses, silent, otherRequest, byOpcode, onAtt}
 use Rattle.att.specs.Channel.{onChannel}

@@ -1,19 +1,18 @@
-use Rattle.responses.proofs.ResponseLaws.{present-services, present-characteristics, present-descriptors, present-nothing}
-use Rattle.responses.specs.Responses.{present}
-use mathlib.Core.Path.{_≡_, ap, sym, _∙_}
+use Rattle.responses.proofs.ResponseLaws.{present-mtu, present-written, present-value, present-services, present-characteristics, present-descriptors, present-nothing}
+use mathlib.Core.Path.{_∙_}
 use borrow.Author.Needs.{needs}
 use Rattle.responses.proofs.present.Statement.{statement}
 use Rattle.responses.proofs.present.Tie as tie
 use Rattle.responses.proofs.present.Reads as reads
 use Rattle.responses.proofs.present.Lts as lts
 use Rattle.frames.proofs.byte.Reads as byte-reads
-use Rattle.responses.proofs.characteristics_heard.Reads as characteristics-heard-reads
-use Rattle.responses.proofs.descriptors_heard.Reads as descriptors-heard-reads
-use Rattle.responses.proofs.mtu_told.Reads as mtu-told-reads
-use Rattle.responses.proofs.service_of.Reads as service-of-reads
-use Rattle.responses.proofs.services_heard.Reads as services-heard-reads
-use Rattle.responses.proofs.value_read.Reads as value-read-reads
-use Rattle.responses.proofs.written.Reads as written-reads
+use Rattle.characteristic_walk.proofs.characteristics_heard.Reads as characteristics-heard-reads
+use Rattle.characteristic_walk.proofs.descriptors_heard.Reads as descriptors-heard-reads
+use Rattle.outcomes.proofs.mtu_told.Reads as mtu-told-reads
+use Rattle.moves.proofs.service_of.Reads as service-of-reads
+use Rattle.service_walk.proofs.services_heard.Reads as services-heard-reads
+use Rattle.outcomes.proofs.value_read.Reads as value-read-reads
+use Rattle.outcomes.proofs.written.Reads as written-reads
 
 -- src/lib.rt:555:9
 byte-requires : tie.Need-byte-requires
@@ -89,7 +88,7 @@ same-length c = search needs
 
 -- src/lib.rt:551:1
 returns : tie.Need-returns
-returns c = (c .before .before .mtu-told .ensures) _ ∙ ap (present _ _ _) (sym (c .before .before .before .before .before .a .given .1))
+returns c = (c .before .before .mtu-told .ensures) _ ∙ present-mtu _ _ _ _ _ (c .before .before .before .before .before .a .given .1)
 
 -- src/lib.rt:551:1
 same-length-2 : tie.Need-same-length-2
@@ -133,7 +132,7 @@ same-length-8 c = search needs
 
 -- src/lib.rt:551:1
 returns-5 : tie.Need-returns-5
-returns-5 c = (c .before .before .written .ensures) _ ∙ ap (present _ _ _) (sym (c .before .before .before .before .enum-told .given .1))
+returns-5 c = (c .before .before .written .ensures) _ ∙ present-written _ _ _ _ (c .before .before .before .before .enum-told .given .1)
 
 -- src/lib.rt:551:1
 same-length-9 : tie.Need-same-length-9
@@ -141,7 +140,7 @@ same-length-9 c = search needs
 
 -- src/lib.rt:551:1
 returns-6 : tie.Need-returns-6
-returns-6 c = (c .before .before .value-read .ensures) _ ∙ ap (present _ _ _) (sym (c .before .before .before .before .enum-told2 .given .1))
+returns-6 c = (c .before .before .value-read .ensures) _ ∙ present-value _ _ _ _ (c .before .before .before .before .enum-told2 .given .1)
 
 -- src/lib.rt:551:1
 same-length-10 : tie.Need-same-length-10

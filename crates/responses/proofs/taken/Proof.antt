@@ -1,15 +1,15 @@
 use Rattle.responses.proofs.ResponseLaws.{taken-idle, taken-error, taken-answer}
-use mathlib.Core.Path.{_≡_, ap, sym, _∙_}
+use mathlib.Core.Path.{_∙_}
 use borrow.Author.Needs.{needs}
 use Rattle.responses.proofs.taken.Statement.{statement}
 use Rattle.responses.proofs.taken.Tie as tie
 use Rattle.responses.proofs.taken.Reads as reads
 use Rattle.responses.proofs.taken.Lts as lts
 use Rattle.frames.proofs.byte.Reads as byte-reads
-use Rattle.responses.proofs.asked_by.Reads as asked-by-reads
-use Rattle.responses.proofs.failed.Reads as failed-reads
+use Rattle.questions.proofs.asked_by.Reads as asked-by-reads
+use Rattle.errors.proofs.failed.Reads as failed-reads
 use Rattle.responses.proofs.present.Reads as present-reads
-use Rattle.state.proofs.parts.running_of.Reads as running-of-reads
+use Rattle.moves.proofs.running_of.Reads as running-of-reads
 
 -- src/lib.rt:622:9
 running-of-requires : tie.Need-running-of-requires
