@@ -30,6 +30,9 @@ const HEARD: Address = Address {
 
 const DATA: [u8; 4] = [0x03, 0x03, 0x0F, 0x18];
 
+// A whole frame: an MTU request of the peer (Core Vol 3 Part F 3.4.2.1), which is answered.
+const FRAME: [u8; 7] = [0x03, 0x00, 0x04, 0x00, 0x02, 0x17, 0x00];
+
 fn is_silent(request: LinkRequest) -> bool {
     match request {
         LinkRequest::Nothing => true,
@@ -91,6 +94,12 @@ fn timed(t: Tally, s: State, h: u64, store: &mut [u8], out: &mut [u8]) -> Tally 
 
 fn connected(t: Tally, s: State, h: u64, store: &mut [u8], out: &mut [u8]) -> Tally {
     let a = events::on_connected(s, store, out, HANDLE, AT);
+    loud(t, a, h, store, out)
+}
+
+fn fragmented(t: Tally, s: State, h: u64, store: &mut [u8], out: &mut [u8]) -> Tally {
+    let frame = FRAME;
+    let a = link::on_fragment(s, store, out, AT, true, &frame);
     loud(t, a, h, store, out)
 }
 
@@ -166,10 +175,15 @@ fn script(t: Tally, s: State, h: u64, store: &mut [u8], out: &mut [u8]) -> Tally
     timed(a, s, h, store, out)
 }
 
+fn linked(t: Tally, s: State, h: u64, store: &mut [u8], out: &mut [u8]) -> Tally {
+    let a = connected(t, s, h, store, out);
+    fragmented(a, s, h, store, out)
+}
+
 // The calls that may send.
 fn with_output(t: Tally, s: State, h: u64, store: &mut [u8], out: &mut [u8]) -> Tally {
     let a = script(t, s, h, store, out);
-    connected(a, s, h, store, out)
+    linked(a, s, h, store, out)
 }
 
 // All of them, each on the state as it is given and on bytes filled by the rule.
