@@ -32,10 +32,10 @@ use Rattle.discovery.specs.Discovery.{lastHandle, discoverServices, discoverCha
 use Rattle.starts.specs.Wait.{checkWait}
 use Rattle.frames.specs.Payload.{payloadAt, payloadSize, payload, withMtu}
 use Rattle.replies.specs.Replies.{onSignaling, onSmp, refuse, exchange, keepOne, notice}
-use Rattle.responses.specs.declared.Goal.{Goal}
-use Rattle.responses.specs.declared.Goal.the-variants as goal
-use Rattle.responses.specs.declared.Asked.{Asked}
-use Rattle.responses.specs.declared.Asked.the-variants as asked-variants
+use Rattle.questions.specs.declared.Goal.{Goal}
+use Rattle.questions.specs.declared.Goal.the-variants as goal
+use Rattle.questions.specs.declared.Asked.{Asked}
+use Rattle.questions.specs.declared.Asked.the-variants as asked-variants
 use Rattle.responses.specs.Responses.{askedBy, over, become, serviceOf, entriesOf, walkInto, servicesDone, servicesFound, servicesHeard, characteristicsFound, characteristicsHeard, afterRange, goOn, widthOf, descriptorsFound, descriptorsHeard, rangeDone, characteristicsDone, absent, smallerMtu, valueRead, present, failed, counts, unasked, taken, onResponse}
 use Rattle.att.specs.Att.{searches, accesses, silent, otherRequest, byOpcode, onAtt}
 use Rattle.att.specs.Channel.{onChannel}
