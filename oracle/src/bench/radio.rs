@@ -1,0 +1,173 @@
+//! Advertisements, and a round of three calls.
+
+use crate::{Lent, Took, compare, known, less_set_up, running, timed, told, unlisted};
+use oracle::ble::central::{AdvAction, Central, Notification, Service, Step, StepResult, StepStatus, Target};
+use std::hint::black_box;
+
+unsafe extern "C" {
+    fn bench_advertising(
+        n: u32,
+        row: u8,
+        half: bool,
+        store: *mut u8,
+        store_len: usize,
+        data: *const u8,
+        len: usize,
+    ) -> u64;
+    fn bench_mixed(
+        n: u32,
+        store: *mut u8,
+        store_len: usize,
+        out: *mut u8,
+        out_len: usize,
+        data: *const u8,
+        len: usize,
+    ) -> u64;
+}
+
+/// Flags, three services and a name; and a scan response of one long service and a name.
+pub const DATA: [u8; 31] = *b"\x02\x01\x06\x07\x03\x0A\x18\x12\x18\x10\x18\x13\x09Head of the bay 04";
+const RESPONSE: [u8; 31] =
+    *b"\x11\x07\x9E\xCA\xDC\x24\x0E\xE5\xA9\xE0\x93\xF3\xA3\xB5\x01\x00\x40\x6E\x0C\x08A long name";
+
+/// The reports' bytes in the store, of 62 each.
+const REPORTS_AT: usize = 39_663;
+
+const CALLS: u32 = 10_000;
+
+#[derive(Clone, Copy)]
+enum Row {
+    Known,
+    Missed,
+    Connect,
+}
+
+impl Row {
+    fn advertisers(self) -> u32 {
+        if matches!(self, Row::Missed) { 100 } else { 64 }
+    }
+
+    fn step(self) -> Step {
+        if matches!(self, Row::Connect) {
+            let target = Target::Service(unlisted());
+            return Step::Connect { target, interval: 24, latency: 0, timeout: 100, within_ms: 60_000 };
+        }
+        Step::Scan { ms: 60_000 }
+    }
+}
+
+fn address(who: u32) -> [u8; 6] {
+    let [a, b, c, d] = who.to_le_bytes();
+    [a, b, c, d, 0xAA, 0]
+}
+
+fn after(who: u32, advertisers: u32) -> u32 {
+    if who + 1 < advertisers { who + 1 } else { 0 }
+}
+
+/// Half of each table, as crates/bench_calls has it.
+fn half_full(c: &mut Central) {
+    c.queue = vec![Step::Scan { ms: 0 }; 32];
+    c.results = vec![StepResult { index: 0, at_us: 0, status: StepStatus::Ok, value: Vec::new() }; 32];
+    c.services = vec![Service::default(); 16];
+    c.characteristics = known(32);
+    c.notifications = vec![Notification::default(); 16];
+    c.notified = 16;
+}
+
+/// A state that has heard the advertisers of a row.
+fn listening(row: Row, half: bool) -> Central {
+    let mut c = Central { next_index: 1, running: running(row.step(), 60_000_000, 0), ..Central::default() };
+    if half {
+        half_full(&mut c);
+    }
+    for who in 0..row.advertisers() {
+        c.on_advertising(1, 37, 0, address(who), true, &DATA, false);
+    }
+    if matches!(row, Row::Connect) {
+        for who in 0..row.advertisers() {
+            c.on_scan_response(2, address(who), true, &RESPONSE);
+        }
+    }
+    c
+}
+
+/// The same in the port's store.
+fn lend_reports(l: &mut Lent) {
+    for block in l.store[REPORTS_AT..].chunks_mut(DATA.len() + RESPONSE.len()) {
+        block.copy_from_slice(&[DATA, RESPONSE].concat());
+    }
+}
+
+fn advertise(c: &mut Central, at: u32, who: u32) -> u64 {
+    match c.on_advertising(u64::from(at), 37, 0, address(who), true, &DATA, false) {
+        AdvAction::None => 1,
+        AdvAction::ScanRequest => 2,
+        AdvAction::Connect { .. } => 3,
+    }
+}
+
+#[inline(never)]
+fn rust_round(c: &mut Central, advertisers: u32) -> u64 {
+    let (mut sum, mut who) = (0, 0);
+    for i in 0..CALLS {
+        sum += advertise(c, i, who);
+        who = after(who, advertisers);
+    }
+    told(sum, c)
+}
+
+/// An advertisement, a scan response and a timer call, in turn.
+#[inline(never)]
+fn rust_mixed(c: &mut Central, advertisers: u32) -> u64 {
+    let (mut sum, mut who) = (0, 0);
+    for i in 0..CALLS {
+        sum += advertise(c, i, who);
+        c.on_scan_response(u64::from(i), address(who), true, &DATA);
+        c.on_timer(u64::from(i));
+        who = after(who, advertisers);
+    }
+    told(sum, c)
+}
+
+fn rust(row: Row, half: bool, round: fn(&mut Central, u32) -> u64) -> Took {
+    let mut c = black_box(listening(row, half));
+    timed(|| round(&mut c, row.advertisers()))
+}
+
+fn port_round(l: &mut Lent, n: u32, row: Row, half: bool) -> u64 {
+    // SAFETY: each pointer goes with the length of its own slice.
+    unsafe { bench_advertising(n, row as u8, half, l.store.as_mut_ptr(), l.store.len(), DATA.as_ptr(), DATA.len()) }
+}
+
+fn port_mixed(l: &mut Lent, n: u32) -> u64 {
+    // SAFETY: each pointer goes with the length of its own slice.
+    unsafe {
+        bench_mixed(n, l.store.as_mut_ptr(), l.store.len(), l.out.as_mut_ptr(), l.out.len(), DATA.as_ptr(), DATA.len())
+    }
+}
+
+pub fn rows(l: &mut Lent, rounds: usize) {
+    let rounds = rounds / 5;
+    for (name, row) in [
+        ("advertising, 64 known", Row::Known),
+        ("advertising, 100, each a miss", Row::Missed),
+        ("advertising, Connect, no match", Row::Connect),
+    ] {
+        for (tables, half) in [("tables empty", false), ("tables half full", true)] {
+            let port = || {
+                lend_reports(l);
+                less_set_up(CALLS, |n| port_round(l, n, row, half))
+            };
+            compare(&format!("{name}, {tables}"), CALLS, rounds, || rust(row, half, rust_round), port);
+        }
+    }
+    let port = || less_set_up(CALLS, |n| port_mixed(l, n));
+    compare(
+        "mixed: advertising, scan response, timer",
+        3 * CALLS,
+        rounds,
+        || rust(Row::Known, false, rust_mixed),
+        port,
+    );
+}

@@ -1,0 +1,76 @@
+//! Batches and timer calls.
+
+use crate::{CALLS_A_SET_UP, Lent, begun, compare, less_set_up, port_states, running, rust_states, taken, timed, told};
+use oracle::ble::central::{Central, Step};
+use std::hint::black_box;
+
+unsafe extern "C" {
+    fn bench_batches(
+        n: u32,
+        ends: bool,
+        store: *mut u8,
+        store_len: usize,
+        out: *mut u8,
+        out_len: usize,
+        values: *const u8,
+        len: usize,
+    ) -> u64;
+    fn bench_timers(n: u32, store: *mut u8, store_len: usize, out: *mut u8, out_len: usize) -> u64;
+}
+
+const WAIT: Step = Step::Wait { ms: 1 };
+const ENDS_AT_ONCE: Step = Step::Capture { enabled: true };
+
+/// Each batch on a fresh state. It is handed over, so each has its own.
+#[inline(never)]
+fn rust_batches(batches: Vec<Vec<Step>>) -> u64 {
+    batches.into_iter().enumerate().fold(0, |sum, (i, steps)| {
+        let mut c = black_box(Central::default());
+        c.push_steps(steps, i as u64);
+        taken(&mut c);
+        sum + (c.queue.len() + c.results.len()) as u64
+    })
+}
+
+#[inline(never)]
+fn rust_timers(c: &mut Central) -> u64 {
+    for i in 1..=CALLS_A_SET_UP {
+        c.on_timer(u64::from(i) * 1000);
+        taken(c);
+    }
+    told(0, c)
+}
+
+/// A wait runs until 1 ms, and 64 more wait.
+fn waiting() -> Central {
+    Central { running: running(WAIT, 1000, 0), queue: vec![WAIT; CALLS_A_SET_UP as usize], ..begun() }
+}
+
+fn port_batches(l: &mut Lent, n: u32, ends: bool) -> u64 {
+    // SAFETY: each pointer goes with the length of its own slice.
+    unsafe {
+        bench_batches(n, ends, l.store.as_mut_ptr(), l.store.len(), l.out.as_mut_ptr(), l.out.len(), [].as_ptr(), 0)
+    }
+}
+
+fn port_timers(l: &mut Lent, n: u32) -> u64 {
+    // SAFETY: each pointer goes with the length of its own slice.
+    unsafe { bench_timers(n, l.store.as_mut_ptr(), l.store.len(), l.out.as_mut_ptr(), l.out.len()) }
+}
+
+pub fn rows(l: &mut Lent, rounds: usize) {
+    const BATCHES: u32 = 40;
+    for (name, step, ends) in
+        [("a batch of 64 waits", WAIT, false), ("a batch of 64 steps that end at once", ENDS_AT_ONCE, true)]
+    {
+        let rust = || {
+            let batches = vec![vec![step.clone(); 64]; BATCHES as usize];
+            timed(|| rust_batches(batches))
+        };
+        compare(name, BATCHES, rounds, rust, || less_set_up(BATCHES, |n| port_batches(l, n, ends)));
+    }
+    const STATES: u32 = 10;
+    let rust = || rust_states(STATES, waiting, rust_timers);
+    let port = || port_states(STATES, CALLS_A_SET_UP, |n| port_timers(l, n));
+    compare("a timer call that ends a step", CALLS_A_SET_UP * STATES, rounds, rust, port);
+}

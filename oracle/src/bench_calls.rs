@@ -1,0 +1,174 @@
+//! What the calls cost, as ratios to the Rust, and the stack that each needs: `bench_calls [rounds N]`.
+//!
+//! The port's side of each row is a loop in Rattle (crates/bench_calls, crates/bench_mixed), which is timed whole and less its
+//! set-up (the same loop of 0 calls); the Rust's side is the same loop here, its set-up not timed. The two run in turn, round after
+//! round, the order changing; what is printed is the ratio of the best times, the median of the rounds' own ratios, and the best
+//! times. Times are the thread's own processor time, so that other programs count for little. Both sides answer one number of what
+//! the calls gave and left, and the two must be equal.
+
+#[path = "bench/link.rs"]
+mod link;
+#[path = "bench/radio.rs"]
+mod radio;
+#[path = "bench/script.rs"]
+mod script;
+#[path = "bench/stack.rs"]
+mod stack;
+
+use oracle::ble::central::{AdvReport, Central, Characteristic, Running, Step, Uuid};
+use std::ffi::c_int;
+use std::hint::black_box;
+
+/// Where each call ends a step, so many steps wait.
+pub const CALLS_A_SET_UP: u32 = 64;
+
+/// What is lent to the port.
+pub struct Lent {
+    pub store: Vec<u8>,
+    pub out: Vec<u8>,
+}
+
+/// One number of what the calls gave and left, and the nanoseconds that all took.
+pub type Took = (u64, f64);
+
+#[repr(C)]
+struct Moment {
+    seconds: i64,
+    nanoseconds: i64,
+}
+
+unsafe extern "C" {
+    fn clock_gettime(clock: c_int, at: *mut Moment) -> c_int;
+}
+
+/// The nanoseconds that this thread has run.
+fn ran() -> f64 {
+    const THREAD_CPUTIME: c_int = 3;
+    let mut at = Moment { seconds: 0, nanoseconds: 0 };
+    // SAFETY: a `timespec` of Linux on 64 bits.
+    assert_eq!(unsafe { clock_gettime(THREAD_CPUTIME, &mut at) }, 0, "the thread's clock");
+    at.seconds as f64 * 1e9 + at.nanoseconds as f64
+}
+
+pub fn timed(f: impl FnOnce() -> u64) -> Took {
+    let began = ran();
+    let told = black_box(f());
+    (told, ran() - began)
+}
+
+/// Times n calls of the port, less the set-up.
+pub fn less_set_up(n: u32, mut f: impl FnMut(u32) -> u64) -> Took {
+    let before = timed(|| f(0)).1;
+    let (told, all) = timed(|| f(n));
+    (told, all - before)
+}
+
+/// Times n calls of the port on each of so many states, less the set-ups.
+pub fn port_states(states: u32, n: u32, mut f: impl FnMut(u32) -> u64) -> Took {
+    (0..states).fold((0, 0.0), |(told, ns), _| {
+        let took = less_set_up(n, &mut f);
+        (took.0.wrapping_add(told), took.1 + ns)
+    })
+}
+
+/// Times the Rust on each of so many states.
+pub fn rust_states(states: u32, state: impl Fn() -> Central, mut f: impl FnMut(&mut Central) -> u64) -> Took {
+    let mut all: Vec<Central> = (0..states).map(|_| black_box(state())).collect();
+    timed(|| all.iter_mut().fold(0, |told, c| f(c).wrapping_add(told)))
+}
+
+// ---- the Rust's states
+
+/// A UUID that no one lists.
+pub fn unlisted() -> Uuid {
+    let mut uuid = [0; 16];
+    (uuid[0], uuid[8]) = (1, 2);
+    Uuid(uuid)
+}
+
+pub fn known(count: u16) -> Vec<Characteristic> {
+    let one = |n| Characteristic { declaration: n, value_handle: n, uuid: unlisted(), ..Characteristic::default() };
+    (1..=count).map(one).collect()
+}
+
+pub fn running(step: Step, deadline_us: u64, phase: u8) -> Option<Running> {
+    Some(Running { index: 0, step, deadline_us: Some(deadline_us), phase, cursor: 1, scan_requested: Vec::new() })
+}
+
+/// As crates/bench_calls/src/begin.rt has it of every state.
+pub fn begun() -> Central {
+    Central { next_index: 1, reports: vec![AdvReport::default(); 64], ..Central::default() }
+}
+
+/// As after each event: nothing stays queued. How many bytes went out.
+pub fn taken(c: &mut Central) -> u64 {
+    let frames = black_box(c.take_frames());
+    black_box(c.take_ll_requests());
+    frames.iter().map(|f| f.len() as u64).sum()
+}
+
+/// One more half of a number, as crates/digest has it.
+fn join(h: u64, half: u64) -> u64 {
+    const PRIME: u64 = 4_294_967_311;
+    ((h % PRIME) * 1_000_003 + half % (1 << 32)) % PRIME
+}
+
+/// What stands, as crates/bench_calls/src/told.rt has it.
+pub fn told(sum: u64, c: &Central) -> u64 {
+    [
+        c.queue.len() as u64,
+        c.results.len() as u64,
+        c.characteristics.len() as u64,
+        c.notifications.len() as u64,
+        u64::from(c.next_index),
+        c.notified,
+        c.wait_from,
+        c.reports.len() as u64,
+        c.running.as_ref().map_or(0, |r| r.scan_requested.len()) as u64,
+    ]
+    .into_iter()
+    .fold(sum, |h, x| join(join(h, x >> 32), x))
+}
+
+// ---- a row
+
+/// Times both sides in turn and prints the row. The order changes from round to round.
+pub fn compare(name: &str, calls: u32, rounds: usize, mut rust: impl FnMut() -> Took, mut port: impl FnMut() -> Took) {
+    let (mut best_rust, mut best_port, mut ratios) = (f64::MAX, f64::MAX, Vec::new());
+    for round in 0..rounds {
+        let (r, p) = if round % 2 == 0 {
+            let r = rust();
+            (r, port())
+        } else {
+            let p = port();
+            (rust(), p)
+        };
+        assert_eq!(r.0, p.0, "{name}: the two sides differ");
+        best_rust = best_rust.min(r.1);
+        best_port = best_port.min(p.1);
+        ratios.push(p.1 / r.1);
+    }
+    ratios.sort_by(f64::total_cmp);
+    println!(
+        "{name:48} {:6.2} of the Rust's time (median of rounds {:.2}; {:.0} ns to {:.0} ns a call)",
+        best_port / best_rust,
+        ratios[ratios.len() / 2],
+        best_port / f64::from(calls),
+        best_rust / f64::from(calls),
+    );
+}
+
+fn option(name: &str, default: usize) -> usize {
+    let words: Vec<String> = std::env::args().collect();
+    let given = words.iter().position(|w| w == name).and_then(|i| words.get(i + 1)).and_then(|n| n.parse().ok());
+    given.unwrap_or(default)
+}
+
+fn main() {
+    let rounds = option("rounds", 200);
+    let mut l = Lent { store: vec![0; 43_631], out: vec![0; 16_315] };
+    script::rows(&mut l, rounds);
+    radio::rows(&mut l, rounds);
+    link::rows(&mut l, rounds);
+    stack::rows(&mut l);
+}
