@@ -1,9 +1,8 @@
 // Advertisements, one after another.
-use crate::begin;
-use crate::row;
 use crate::told;
 use matching::AdvAction;
 use state::Address;
+use state::State;
 use time::Micros;
 
 pub const ADV_IND: u8 = 0;
@@ -39,16 +38,15 @@ pub fn number_of(x: AdvAction) -> usize {
     }
 }
 
-// They speak in turn, n times in all.
-pub fn round(n: u32, row: u8, half: bool, store: &mut [u8], data: &[u8]) -> u64 {
-    let count = row::advertisers(row);
-    let mut t = begin::state(row::listening(row, half));
+// They speak in turn, n times in all. The state is handed in: LLVM then has its best chance to see what a call leaves as it was.
+pub fn round(s: State, store: &mut [u8], n: u32, count: u32, data: &[u8]) -> u64 {
+    let mut t = s;
     let mut sum = 0;
     let mut who = 0;
     let mut i = 0;
     while i < n {
-        let at = Micros(i as u64);
-        let a = radio::on_advertising(t, store, at, 37, ADV_IND, address(who), data, false);
+        let us = i as u64;
+        let a = radio::on_advertising(t, store, Micros(us), 37, ADV_IND, address(who), data, false);
         let action = a.action;
         t = a.state;
         sum = told::with_call(sum, a.refusal, number_of(action));

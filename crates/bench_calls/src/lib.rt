@@ -19,7 +19,8 @@ pub extern "C" fn bench_advertising(
     store: &mut [u8],
     data: &[u8],
 ) -> u64 {
-    hear::round(n, row, half, store, data)
+    let s = begin::state(row::listening(row, half));
+    hear::round(s, store, n, row::advertisers(row), data)
 }
 
 // What n batches of 64 steps cost, of waits or of steps that end at once. No step has a value: the lent values may be no bytes.

@@ -8,25 +8,16 @@ use Rattle.bench_calls.proofs.hear.round.Statement.{statement}
 use Rattle.bench_calls.proofs.hear.round.Tie as tie
 
 abbrev Inv-loop : tie.InvT-loop
-Inv-loop n row half store₀ «data» count t₀ sum₀ who₀ i₀ store t sum who i = (i ≤ n) × (n ≤ 4294967295) × (length store ≡ length store₀)
+Inv-loop store₀ n count «data» t₀ sum₀ who₀ i₀ store t sum who i = (i ≤ n) × (n ≤ 4294967295) × (length store ≡ length store₀)
 
 abbrev μ-loop : tie.MeasureT-loop
-μ-loop n row half store₀ «data» count t₀ sum₀ who₀ i₀ store t sum who i = n - i
-
-advertisers-requires : tie.Need-advertisers-requires Inv-loop μ-loop
-advertisers-requires c κs = search needs
-
-listening-requires : tie.Need-listening-requires Inv-loop μ-loop
-listening-requires c κs = search needs
-
-state-requires : tie.Need-state-requires Inv-loop μ-loop
-state-requires c κs = search needs
+μ-loop store₀ n count «data» t₀ sum₀ who₀ i₀ store t sum who i = n - i
 
 loop-holds : tie.Need-loop-holds Inv-loop μ-loop
 loop-holds c = (omega arith, omega arith, omega arith)
 
-cast-t18 : tie.Need-cast-t18 Inv-loop μ-loop
-cast-t18 c = omega arith
+cast-us : tie.Need-cast-us Inv-loop μ-loop
+cast-us c = omega arith
 
 address-requires : tie.Need-address-requires Inv-loop μ-loop
 address-requires c κs = search needs
@@ -67,11 +58,8 @@ round-spec =
     (tie.spec
     Inv-loop
     μ-loop
-    advertisers-requires
-    listening-requires
-    state-requires
     loop-holds
-    cast-t18
+    cast-us
     address-requires
     on-advertising-requires
     number-of-requires
