@@ -198,7 +198,7 @@ pub fn notice(
     let handle = frames::number(store, n, 1);
     let told = confirm(sent, out, indication);
     let kept = keep_one(state, store, at, handle, n - HEAD, indication);
-    let next = starts::check_wait(kept, store, at);
+    let next = checks::check_wait(kept, store, at);
     Turn {
         state: next,
         sent: told,

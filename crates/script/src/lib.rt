@@ -31,7 +31,7 @@ fn step_once(t: Turn, store: &mut [u8], out: &mut [u8], at: Micros) -> Turn
     let sent = t.sent;
     let state = waiting::take_step(s, store);
     let u = Turn { state, sent };
-    starts::start(u, store, out, at)
+    begins::start(u, store, out, at)
 }
 
 // Steps begin, one after another, until one runs or none waits.
@@ -53,7 +53,7 @@ fn step_unlinked(s: State, store: &mut [u8], at: Micros) -> State
     ensures { λ r. ⌜ held r (now (store .exit)) ≡ stepUnlinked (held s (now (store .entry))) at ⌝ }
 {
     let u = waiting::take_step(s, store);
-    starts::start_unlinked(u, store, at)
+    begins::start_unlinked(u, store, at)
 }
 
 pub fn advance_unlinked(s: State, store: &mut [u8], at: Micros) -> State

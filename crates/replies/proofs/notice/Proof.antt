@@ -7,7 +7,7 @@ use Rattle.replies.proofs.notice.Lts as lts
 use Rattle.frames.proofs.number.Reads as number-reads
 use Rattle.replies.proofs.confirm.Reads as confirm-reads
 use Rattle.replies.proofs.keep_one.Reads as keep-one-reads
-use Rattle.starts.proofs.check_wait.Reads as check-wait-reads
+use Rattle.checks.proofs.check_wait.Reads as check-wait-reads
 
 -- src/lib.rt:198:9
 number-requires : tie.Need-number-requires

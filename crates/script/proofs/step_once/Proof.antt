@@ -4,7 +4,7 @@ use Rattle.script.proofs.step_once.Statement.{statement}
 use Rattle.script.proofs.step_once.Tie as tie
 use Rattle.script.proofs.step_once.Reads as reads
 use Rattle.script.proofs.step_once.Lts as lts
-use Rattle.starts.proofs.start.Reads as start-reads
+use Rattle.begins.proofs.start.Reads as start-reads
 use Rattle.waiting.proofs.take_step.Reads as take-step-reads
 
 -- src/lib.rt:32:9

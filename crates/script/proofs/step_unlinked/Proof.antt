@@ -4,7 +4,7 @@ use Rattle.script.proofs.step_unlinked.Statement.{statement}
 use Rattle.script.proofs.step_unlinked.Tie as tie
 use Rattle.script.proofs.step_unlinked.Reads as reads
 use Rattle.script.proofs.step_unlinked.Lts as lts
-use Rattle.starts.proofs.start_unlinked.Reads as start-unlinked-reads
+use Rattle.begins.proofs.start_unlinked.Reads as start-unlinked-reads
 use Rattle.waiting.proofs.take_step.Reads as take-step-reads
 
 -- src/lib.rt:55:9

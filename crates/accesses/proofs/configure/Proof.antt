@@ -1,0 +1,42 @@
+use lib.ListN.{length}
+use mathlib.Core.Path.{_≡_, ap, sym, _∙_}
+use native.Mathlib.Omega.{arith}
+use Rattle.starts.specs.Start.{read, subscribe, write}
+use Rattle.turns.proofs.ReadyLaws.{ready-room}
+use Rattle.starts.proofs.StartLaws.{less-room}
+use Rattle.starts.proofs.LinkedLaws.{found, read-none, read-one, subscribe-none, subscribe-one, cccd-unknown, cccd-known, write-none, configure-law, write-long, write-asks, write-tells, may-send, asks-law, tells-law, looks-stay, waits-then, runs-law}
+use borrow.Author.Needs.{needs}
+use Rattle.accesses.proofs.configure.Statement.{statement}
+use Rattle.accesses.proofs.configure.Tie as tie
+use Rattle.accesses.proofs.configure.Reads as reads
+use Rattle.accesses.proofs.configure.Lts as lts
+use Rattle.wire.proofs.hi.Reads as hi-reads
+use Rattle.wire.proofs.lo.Reads as lo-reads
+
+-- src/lib.rt:343:13
+lo-requires : tie.Need-lo-requires
+lo-requires c κs = search needs
+
+-- src/lib.rt:344:13
+hi-requires : tie.Need-hi-requires
+hi-requires c κs = search needs
+
+-- src/lib.rt:351:13
+lo-requires-2 : tie.Need-lo-requires-2
+lo-requires-2 c κs = search needs
+
+-- src/lib.rt:352:13
+hi-requires-2 : tie.Need-hi-requires-2
+hi-requires-2 c κs = search needs
+
+-- src/lib.rt:337:1
+returns : tie.Need-returns
+returns c = configure-law _ _ _ _ _ (c .before .lo .ensures) (c .hi .ensures) (c .before .before .if1 .taken)
+
+-- src/lib.rt:337:1
+returns-2 : tie.Need-returns-2
+returns-2 c = configure-law _ _ _ _ _ (c .before .lo2 .ensures) (c .hi2 .ensures) (c .before .before .if1 .left)
+
+pub configure-spec : {M : Type 1} → statement M
+configure-spec =
+    tie.close (tie.spec lo-requires hi-requires lo-requires-2 hi-requires-2 returns returns-2)

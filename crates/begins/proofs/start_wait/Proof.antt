@@ -1,0 +1,33 @@
+use lib.ListN.{length}
+use mathlib.Core.Path.{_≡_, ap, sym, _∙_}
+use native.Mathlib.Omega.{arith}
+use Rattle.starts.specs.Start.{read, subscribe, write}
+use Rattle.turns.proofs.ReadyLaws.{ready-room}
+use Rattle.starts.proofs.StartLaws.{less-room}
+use Rattle.starts.proofs.LinkedLaws.{found, read-none, read-one, subscribe-none, subscribe-one, cccd-unknown, cccd-known, write-none, configure-law, write-long, write-asks, write-tells, may-send, asks-law, tells-law, looks-stay, waits-then, runs-law}
+use borrow.Author.Needs.{needs}
+use Rattle.begins.proofs.start_wait.Statement.{statement}
+use Rattle.begins.proofs.start_wait.Tie as tie
+use Rattle.begins.proofs.start_wait.Reads as reads
+use Rattle.begins.proofs.start_wait.Lts as lts
+use Rattle.checks.proofs.check_wait.Reads as check-wait-reads
+use Rattle.endings.proofs.wait_for.Reads as wait-for-reads
+
+-- src/lib.rt:474:9
+wait-for-requires : tie.Need-wait-for-requires
+wait-for-requires c κs = search needs
+
+-- src/lib.rt:475:9
+check-wait-requires : tie.Need-check-wait-requires
+check-wait-requires c κs = (c .before .before .before .before .before .pre .0, looks-stay (c .before .before .before .before .before .args .t .state) _ _ _ (c .before .wait-for .ensures) (c .before .before .before .before .before .pre .1))
+
+-- src/lib.rt:468:1
+same-length : tie.Need-same-length
+same-length c = search needs
+
+-- src/lib.rt:468:1
+returns : tie.Need-returns
+returns c = waits-then (c .before .before .before .before .before .before .before .before .args .t) _ _ _ _ _ _ (c .before .before .before .before .wait-for .ensures) (c .before .before .check-wait .ensures)
+
+pub start-wait-spec : {M : Type 1} → statement M
+start-wait-spec = tie.close (tie.spec wait-for-requires check-wait-requires same-length returns)
