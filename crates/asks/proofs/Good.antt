@@ -36,8 +36,8 @@ use Rattle.keeps.specs.Sound.{Sound}
 use Rattle.script.specs.Script.{canGo, stepOnce}
 use Rattle.script.proofs.AdvanceLaws.{GoesOn, goes-on}
 use Rattle.frames.specs.Payload.{payloadAt, payload, payloadSize}
-use Rattle.responses.specs.Responses.{counts}
-use Rattle.att.specs.Channel.{onChannel}
+use Rattle.rules.specs.Responses.{counts}
+use Rattle.rules.specs.Channel.{onChannel}
 use Rattle.trails.specs.Trail.{News, att-heard, Pass, pass, final, met, parted, cameOn}
 use Rattle.trails.specs.Log.{keptResults, upTo, newer, gave}
 use Rattle.trails.proofs.Hops.{Sizes, Still, Open, Hop, ended, began, meets, parts, still, acted}

@@ -29,7 +29,7 @@ use Rattle.keeps.specs.Sound.{Sound}
 use Rattle.script.specs.Script.{canGo, stepOnce}
 use Rattle.script.proofs.AdvanceLaws.{GoesOn, goes-on}
 use Rattle.frames.specs.Payload.{payload}
-use Rattle.att.specs.Channel.{onChannel}
+use Rattle.rules.specs.Channel.{onChannel}
 use Rattle.trails.specs.Trail.{News, link-came, link-went, att-heard, Pass, pass, final, met, parted, cameOn}
 use Rattle.trails.specs.Log.{keptResults, upTo, newer, gave}
 use Rattle.trails.proofs.Hops.{Sizes, Still, Open, Hop, ended, began, meets, parts, still, acted}

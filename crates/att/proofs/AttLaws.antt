@@ -20,9 +20,9 @@ use Rattle.state.specs.declared.Turn.{Turn}
 use Rattle.turns.specs.World.{World, Told, told, world, onTold}
 use Rattle.frames.specs.Payload.{payload}
 use Rattle.replies.specs.Replies.{refuse, exchange, notice}
-use Rattle.responses.specs.Responses.{onResponse}
+use Rattle.rules.specs.Responses.{onResponse}
 use Rattle.fit.specs.FitLaws.{both}
-use Rattle.att.specs.Att.{searches, accesses, silent, otherRequest, byOpcode, onAtt}
+use Rattle.rules.specs.Att.{searches, accesses, silent, otherRequest, byOpcode, onAtt}
 
 -- ---- an arm's values
 

@@ -8,7 +8,7 @@ ghost use Rattle.turns.specs.World.{world, onTold};
 ghost use Rattle.turns.specs.Send.{Room};
 ghost use Rattle.frames.specs.Payload.{Reads};
 ghost use Rattle.replies.specs.Replies.{refuse};
-ghost use Rattle.att.specs.Att.{onAtt};
+ghost use Rattle.rules.specs.Att.{onAtt};
 use att_pdu::err;
 use att_pdu::op;
 use state::Turn;

@@ -44,7 +44,7 @@ use Rattle.script.specs.Script.{canGo, stepOnce}
 use Rattle.script.proofs.AdvanceLaws.{GoesOn, goes-on, stepped}
 use Rattle.calls.proofs.BeginLaws.{sound-stays}
 use Rattle.events.specs.Events.{linked, unlinked}
-use Rattle.att.specs.Channel.{onChannel}
+use Rattle.rules.specs.Channel.{onChannel}
 use Rattle.trails.specs.Trail.{Pass, final, met, parted}
 use Rattle.trails.specs.Log.{keptResults, upTo, newer, gave, givenIn, queuedAll}
 use Rattle.trails.proofs.Hops.{Sizes, Still, Open, Hop, ended, began, meets, parts, still, acted, Hops, none, more}

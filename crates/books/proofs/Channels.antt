@@ -38,9 +38,9 @@ use Rattle.questions.specs.declared.Goal.{Goal}
 use Rattle.questions.specs.declared.Goal.the-variants as goal
 use Rattle.questions.specs.declared.Asked.{Asked}
 use Rattle.questions.specs.declared.Asked.the-variants as asked-variants
-use Rattle.responses.specs.Responses.{askedBy, over, become, serviceOf, entriesOf, walkInto, servicesDone, servicesFound, servicesHeard, characteristicsFound, characteristicsHeard, afterRange, goOn, widthOf, descriptorsFound, descriptorsHeard, rangeDone, characteristicsDone, absent, smallerMtu, valueRead, present, failed, counts, unasked, taken, onResponse}
-use Rattle.att.specs.Att.{searches, accesses, silent, otherRequest, byOpcode, onAtt}
-use Rattle.att.specs.Channel.{onChannel}
+use Rattle.rules.specs.Responses.{askedBy, over, become, serviceOf, entriesOf, walkInto, servicesDone, servicesFound, servicesHeard, characteristicsFound, characteristicsHeard, afterRange, goOn, widthOf, descriptorsFound, descriptorsHeard, rangeDone, characteristicsDone, absent, smallerMtu, valueRead, present, failed, counts, unasked, taken, onResponse}
+use Rattle.rules.specs.Att.{searches, accesses, silent, otherRequest, byOpcode, onAtt}
+use Rattle.rules.specs.Channel.{onChannel}
 use Rattle.books.proofs.Gives.{Whole, Goes-on, Gives, nothing, one, gives-none, gives-then, Apart, apart, apart-state, gives-finish, whole-same}
 use Rattle.books.proofs.Starts.{gives-ends, quiet, gives-services, gives-descriptors, gives-characteristics, gives-check}
 

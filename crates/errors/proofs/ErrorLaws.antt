@@ -16,7 +16,7 @@ use Rattle.answers.proofs.AnswerLaws.{yes, no}
 use Rattle.moves.specs.Moves.{over, serviceOf}
 use Rattle.service_walk.specs.Services.{servicesDone}
 use Rattle.characteristic_walk.specs.Characteristics.{characteristicsDone, rangeDone}
-use Rattle.errors.specs.Errors.{absent, failed}
+use Rattle.rules.specs.Errors.{absent, failed}
 
 module _ (w : World) (at : Micros) (a : Asked) where
   abbrev ends-with : World

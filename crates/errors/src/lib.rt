@@ -9,7 +9,7 @@ ghost use Rattle.state.specs.declared.StepStatus.the-variants.{AttError};
 ghost use Rattle.turns.specs.World.{world};
 ghost use Rattle.moves.specs.Able.{Able};
 ghost use Rattle.moves.specs.Moves.{over};
-ghost use Rattle.errors.specs.Errors.{absent, failed};
+ghost use Rattle.rules.specs.Errors.{absent, failed};
 use questions::Asked;
 use state::StepStatus;
 use state::Turn;

@@ -17,7 +17,7 @@ use Rattle.turns.specs.Ready.{Ready}
 use Rattle.keeps.specs.Nearly.{Nearly}
 use Rattle.keeps.proofs.Turns.{Goes}
 use Rattle.frames.specs.Payload.{payloadSize, payload, Reads}
-use Rattle.att.specs.Att.{searches, accesses, silent, otherRequest, byOpcode, onAtt}
+use Rattle.rules.specs.Att.{searches, accesses, silent, otherRequest, byOpcode, onAtt}
 use Rattle.holds.proofs.Work.{goes-pick, goes-not}
 use Rattle.holds.proofs.Replies.{goes-refuse, goes-exchange, goes-notice}
 use Rattle.holds.proofs.Responses.{goes-response}

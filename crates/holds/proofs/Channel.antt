@@ -16,7 +16,7 @@ use Rattle.keeps.specs.Timed.{Timed}
 use Rattle.keeps.specs.Sound.{Sound}
 use Rattle.keeps.proofs.Turns.{Goes}
 use Rattle.frames.specs.Payload.{payloadSize, payload, Reads}
-use Rattle.att.specs.Channel.{onChannel}
+use Rattle.rules.specs.Channel.{onChannel}
 use Rattle.holds.proofs.Work.{goes-pick, goes-not}
 use Rattle.holds.proofs.Replies.{goes-signaling, goes-smp}
 use Rattle.holds.proofs.Att.{goes-payload}

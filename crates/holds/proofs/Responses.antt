@@ -41,7 +41,7 @@ use Rattle.questions.specs.declared.Goal.{Goal}
 use Rattle.questions.specs.declared.Goal.the-variants as goal
 use Rattle.questions.specs.declared.Asked.{Asked}
 use Rattle.questions.specs.declared.Asked.the-variants as asked
-use Rattle.responses.specs.Responses.{askedBy, over, become, serviceOf, entriesOf, walkInto, servicesDone, servicesFound, servicesHeard, characteristicsFound, characteristicsHeard, afterRange, goOn, widthOf, descriptorsFound, descriptorsHeard, rangeDone, characteristicsDone, absent, smallerMtu, valueRead, present, failed, counts, unasked, taken, onResponse}
+use Rattle.rules.specs.Responses.{askedBy, over, become, serviceOf, entriesOf, walkInto, servicesDone, servicesFound, servicesHeard, characteristicsFound, characteristicsHeard, afterRange, goOn, widthOf, descriptorsFound, descriptorsHeard, rangeDone, characteristicsDone, absent, smallerMtu, valueRead, present, failed, counts, unasked, taken, onResponse}
 use Rattle.holds.proofs.Work.{ready-stays, after, goes-pick, goes-not, goes-over}
 use Rattle.holds.proofs.Replies.{stays-mtu}
 use Rattle.holds.proofs.Tables.{services-few, taken-few, taken-rises, named-few, named-rises, stays-services, stays-characteristics}

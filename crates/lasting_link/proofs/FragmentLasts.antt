@@ -21,12 +21,12 @@ use Rattle.keeps.proofs.Turns.{Stays, fit-of, of-fit}
 use Rattle.calls.specs.Outcome.{Outcome, begins, done, refused}
 use Rattle.calls.proofs.BeginLaws.{begins-sound, sound-stays}
 use Rattle.frames.specs.Payload.{payloadSize}
-use Rattle.att.specs.Channel.{onChannel}
+use Rattle.rules.specs.Channel.{onChannel}
 use Rattle.holds.proofs.Channel.{sound-channel, timed-channel}
 use Rattle.fragments.specs.Fragment.{withHeld, dropped, heldBefore, gathered, frameLength, frameChannel, whole, gateFragment, refusing}
 use Rattle.fragments.proofs.FragmentLaws.{passed-fragment}
-use Rattle.link.specs.Link.{frameRead, gather, hear, onFragment}
-use Rattle.link.proofs.KeepLaws.{comes-linked, whole-short, stays-held, stays-gathered}
+use Rattle.rules.specs.Link.{frameRead, gather, hear, onFragment}
+use Rattle.rules.proofs.KeepLaws.{comes-linked, whole-short, stays-held, stays-gathered}
 use Rattle.lasting.specs.Lasting.{Lasting}
 use Rattle.lasting.proofs.FitGoesToFit.{Kept, kept-of, lasts, advances}
 

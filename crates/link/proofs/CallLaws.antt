@@ -17,7 +17,7 @@ use Rattle.calls.proofs.BeginLaws.{begins-sound}
 use Rattle.calls.proofs.GateLaws.{goes-through, is-stopped}
 use Rattle.fragments.specs.Fragment.{dropped, heldBefore, gateFragment, refusing}
 use Rattle.fragments.proofs.FragmentLaws.{PassedFragment, passed-fragment}
-use Rattle.link.specs.Link.{Hears, hear, onFragment}
+use Rattle.rules.specs.Link.{Hears, hear, onFragment}
 
 module _ (s : State) (st out : List ℕ) (at : Micros) (start : Bool) (fragment : List ℕ) (g : ℕ)
     (e : g ≡ gateFragment (central s) (length st) (length out) at start (length fragment)) where

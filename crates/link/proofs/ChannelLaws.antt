@@ -11,8 +11,8 @@ use Rattle.state.specs.declared.Turn.{Turn}
 use Rattle.turns.specs.World.{Told, World, told, world, onTold}
 use Rattle.frames.specs.Payload.{payloadAt}
 use Rattle.replies.specs.Replies.{onSignaling, onSmp}
-use Rattle.att.specs.Att.{onAtt}
-use Rattle.att.specs.Channel.{onChannel}
+use Rattle.rules.specs.Att.{onAtt}
+use Rattle.rules.specs.Channel.{onChannel}
 
 -- a turn that told something
 abbrev telling : Turn → Sent → Turn

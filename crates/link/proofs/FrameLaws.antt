@@ -19,11 +19,11 @@ use Rattle.turns.specs.World.{Held, World, held, world, onHeld, onState}
 use Rattle.keeps.specs.Sound.{Sound}
 use Rattle.script.specs.Script.{advance}
 use Rattle.frames.specs.Payload.{Reads}
-use Rattle.att.specs.Channel.{onChannel}
+use Rattle.rules.specs.Channel.{onChannel}
 use Rattle.holds.proofs.Channel.{sound-channel}
 use Rattle.fragments.specs.Fragment.{withHeld, dropped, heldBefore, gathered, frameLength, frameChannel, whole}
-use Rattle.link.specs.Link.{Hears, frameRead, gather, hear}
-use Rattle.link.proofs.KeepLaws.{still-linked, comes-linked, hears-gathered, sound-emptied, short-payload, reads-emptied}
+use Rattle.rules.specs.Link.{Hears, frameRead, gather, hear}
+use Rattle.rules.proofs.KeepLaws.{still-linked, comes-linked, hears-gathered, sound-emptied, short-payload, reads-emptied}
 
 -- a turn whose state is another
 abbrev turned : Turn → State → Turn

@@ -1,4 +1,3 @@
-pub mod KeepLaws
 pub mod ChannelLaws
 pub mod FrameLaws
 pub mod CallLaws

@@ -1,2 +1,1 @@
-pub mod Link
 pub mod Sole

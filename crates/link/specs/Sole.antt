@@ -8,7 +8,7 @@ use Rattle.state.specs.Central.{Central}
 use Rattle.calls.specs.Outcome.{outcome}
 use Rattle.calls.specs.Sole.{Same, sole}
 use Rattle.calls.specs.declared.Answer.{Answer}
-use Rattle.link.specs.Link.{onFragment}
+use Rattle.rules.specs.Link.{onFragment}
 
 pub on-fragment-sole : (c : Central) (store out : List ℕ) (at : Micros) (start : Bool) (fragment : List ℕ) (x y : Answer) (store₁ store₂ out₁ out₂ : List ℕ)
     → outcome x store₁ out₁ ≡ onFragment c store out at start fragment → outcome y store₂ out₂ ≡ onFragment c store out at start fragment

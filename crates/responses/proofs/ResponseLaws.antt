@@ -20,8 +20,8 @@ use Rattle.base.specs.Bytes.{leAt}
 use Rattle.att_pdu.specs.Numbers.{opErrorRsp, opReadRsp, opWriteRsp}
 use Rattle.frames.specs.Payload.{payload, withMtu}
 use Rattle.questions.specs.declared.Asked.{Asked}
-use Rattle.responses.specs.Responses.{present, taken, onResponse}
-use Rattle.errors.specs.Errors.{failed}
+use Rattle.rules.specs.Responses.{present, taken, onResponse}
+use Rattle.rules.specs.Errors.{failed}
 use Rattle.questions.specs.Questions.{askedBy}
 use Rattle.answers.specs.Answers.{smallerMtu, counts}
 use Rattle.services.specs.declared.Which as service-which

@@ -4,7 +4,7 @@ ghost use Prim.Native.Nat.{_≤_};
 ghost use Rattle.turns.specs.World.{world};
 ghost use Rattle.frames.specs.Payload.{Reads, payloadSize};
 ghost use Rattle.moves.specs.Able.{Able};
-ghost use Rattle.responses.specs.Responses.{present, taken, onResponse};
+ghost use Rattle.rules.specs.Responses.{present, taken, onResponse};
 use questions::Asked;
 use state::Turn;
 use time::Micros;

@@ -34,10 +34,10 @@ use Rattle.calls.specs.Outcome.{Outcome}
 use Rattle.batch.specs.Batch.{batchFits, countersFit, gateBatch, pushSteps}
 use Rattle.events.specs.Events.{connect, onConnected}
 use Rattle.replies.specs.Replies.{reply, onSignaling, refuse, exchange}
-use Rattle.att.specs.Att.{byOpcode, onAtt}
-use Rattle.att.specs.Channel.{onChannel}
+use Rattle.rules.specs.Att.{byOpcode, onAtt}
+use Rattle.rules.specs.Channel.{onChannel}
 use Rattle.fragments.specs.Fragment.{gathered, heldFits, gateFragment}
-use Rattle.link.specs.Link.{frameRead, gather, hear, onFragment}
+use Rattle.rules.specs.Link.{frameRead, gather, hear, onFragment}
 
 pub data Row : Type 0 where
   -- advertising data, a 16-bit service, and whether the data lists it

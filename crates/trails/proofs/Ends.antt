@@ -19,8 +19,8 @@ use Rattle.batch.specs.Batch.{pushSteps}
 use Rattle.events.specs.Events.{timedOut, due, expire, onTimer, linked, isConnect, greeted, connect, onConnected, unlinked, goesOn, cutStatus, cutOff, lose, onDisconnected}
 use Rattle.radio.specs.Radio as radio
 use Rattle.fragments.specs.Fragment.{dropped, withHeld, gathered, frameLength, frameChannel, whole, refusing}
-use Rattle.link.specs.Link.{frameRead, gather, hear, onFragment}
-use Rattle.att.specs.Channel.{onChannel}
+use Rattle.rules.specs.Link.{frameRead, gather, hear, onFragment}
+use Rattle.rules.specs.Channel.{onChannel}
 use Rattle.frames.specs.Payload.{payload}
 use Rattle.state.specs.declared.Reports.{Reports}
 use Rattle.state.specs.declared.Address.{Address}

@@ -43,11 +43,11 @@ use Rattle.reports.specs.Reports.{reportPart, heardAgain, againStore, heardFirs
 use Rattle.reports.specs.Key.{key}
 use Rattle.matching.specs.Matching.{listens}
 use Rattle.frames.specs.Payload.{payload, payloadSize}
-use Rattle.att.specs.Channel.{onChannel}
+use Rattle.rules.specs.Channel.{onChannel}
 use Rattle.holds.proofs.Channel.{sound-channel}
 use Rattle.fragments.specs.Fragment.{withHeld, dropped, heldBefore, gathered, frameLength, frameChannel, whole}
 use Rattle.fragments.proofs.FragmentLaws.{PassedFragment, passed-fragment}
-use Rattle.link.proofs.KeepLaws.{comes-linked, whole-short, stays-held, stays-gathered}
+use Rattle.rules.proofs.KeepLaws.{comes-linked, whole-short, stays-held, stays-gathered}
 use Rattle.trails.specs.Calls.{Call, batch, timer, connected, disconnected, advertising, scanResponse, fragment, reads, blank, gateOf, done?}
 use Rattle.trails.specs.Trail.{Pass, pass, met, parted, thenOnward, onward, cameOn, timerTrail, connectedTrail, disconnectedTrail, fragmentTrail, begins, goes}
 use Rattle.trails.proofs.Hops.{Sizes, NoRead, Still, Open, Hop, ended, began, meets, parts, still, acted, Hops, none, more, onward-hops}

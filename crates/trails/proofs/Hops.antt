@@ -24,7 +24,7 @@ use Rattle.keeps.specs.Nearly.{Nearly}
 use Rattle.keeps.specs.Sound.{Sound}
 use Rattle.script.specs.Script.{canGo, stepOnce}
 use Rattle.frames.specs.Payload.{payload, payloadSize}
-use Rattle.att.specs.Channel.{onChannel}
+use Rattle.rules.specs.Channel.{onChannel}
 use Rattle.trails.specs.Trail.{News, link-came, link-went, att-heard, Pass, pass, final, met, parted, cameOn, onwards, onward}
 
 -- the arrays have the sizes that their types give them (definitions speak of lists of any length)

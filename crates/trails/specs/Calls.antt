@@ -18,7 +18,7 @@ use Rattle.batch.specs.Batch.{gateBatch, pushSteps}
 use Rattle.events.specs.Events.{onTimer, onConnected, onDisconnected}
 use Rattle.radio.specs.Radio as radio
 use Rattle.fragments.specs.Fragment.{gateFragment}
-use Rattle.link.specs.Link.{onFragment}
+use Rattle.rules.specs.Link.{onFragment}
 
 -- a call, with all that its caller hands it but the state and the store; the output comes first where one is lent
 pub data Call : Type 0 where

@@ -18,7 +18,7 @@ use Rattle.calls.specs.Outcome as outcome
 use Rattle.events.specs.Events.{timedOut, due, linked, isConnect, unlinked, goesOn, cutStatus}
 use Rattle.radio.specs.Radio as radio
 use Rattle.frames.specs.Payload.{payload}
-use Rattle.att.specs.Channel.{onChannel}
+use Rattle.rules.specs.Channel.{onChannel}
 use Rattle.fragments.specs.Fragment.{dropped, withHeld, gathered, frameLength, frameChannel, whole}
 use Rattle.trails.specs.Calls.{Call, batch, timer, connected, disconnected, advertising, scanResponse, fragment, reads, blank, outOf, does}
 

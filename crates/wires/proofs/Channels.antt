@@ -35,9 +35,9 @@ use Rattle.questions.specs.declared.Goal.{Goal}
 use Rattle.questions.specs.declared.Goal.the-variants as goal
 use Rattle.questions.specs.declared.Asked.{Asked}
 use Rattle.questions.specs.declared.Asked.the-variants as asked-variants
-use Rattle.responses.specs.Responses.{askedBy, become, serviceOf, walkInto, servicesDone, servicesFound, servicesHeard, characteristicsFound, characteristicsHeard, afterRange, goOn, widthOf, descriptorsFound, descriptorsHeard, rangeDone, characteristicsDone, absent, present, failed, counts, unasked, taken, onResponse}
-use Rattle.att.specs.Att.{searches, accesses, silent, otherRequest, byOpcode, onAtt}
-use Rattle.att.specs.Channel.{onChannel}
+use Rattle.rules.specs.Responses.{askedBy, become, serviceOf, walkInto, servicesDone, servicesFound, servicesHeard, characteristicsFound, characteristicsHeard, afterRange, goOn, widthOf, descriptorsFound, descriptorsHeard, rangeDone, characteristicsDone, absent, present, failed, counts, unasked, taken, onResponse}
+use Rattle.rules.specs.Att.{searches, accesses, silent, otherRequest, byOpcode, onAtt}
+use Rattle.rules.specs.Channel.{onChannel}
 use Rattle.wires.proofs.Sends.{Quiet, Sends, quiet, one, same, nothing, either, Mtu, sends-att}
 use Rattle.wires.proofs.Starts.{sends-services, sends-descriptors, sends-characteristics}
 

@@ -11,7 +11,7 @@ use Rattle.att_pdu.specs.Numbers.{opExchangeMtuReq, opFindInformationReq, opFin
 use Rattle.turns.specs.World.{World, onTold}
 use Rattle.frames.specs.Payload.{payload}
 use Rattle.replies.specs.Replies.{refuse, exchange, notice}
-use Rattle.responses.specs.Responses.{onResponse}
+use Rattle.rules.specs.Responses.{onResponse}
 
 -- searches: there is no such attribute
 abbrev pub searches : List ℕ

@@ -15,7 +15,7 @@ use Rattle.turns.specs.World.{World, onHeld, onState}
 use Rattle.keeps.specs.Sound.{Sound}
 use Rattle.script.specs.Script.{advance}
 use Rattle.calls.specs.Outcome.{Outcome, begins, done, refused}
-use Rattle.att.specs.Channel.{onChannel}
+use Rattle.rules.specs.Channel.{onChannel}
 use Rattle.fragments.specs.Fragment.{withHeld, dropped, gathered, frameLength, frameChannel, whole, gateFragment, refusing}
 
 -- held is emptied, surplus dropped; the frame is read and the script goes on

@@ -20,7 +20,7 @@ use Rattle.keeps.proofs.Turns.{Stays}
 use Rattle.calls.proofs.BeginLaws.{sound-stays}
 use Rattle.frames.specs.Payload.{payloadSize, Reads}
 use Rattle.fragments.specs.Fragment.{withHeld, dropped, heldBefore, gathered, frameLength, whole}
-use Rattle.link.specs.Link.{Hears}
+use Rattle.rules.specs.Link.{Hears}
 
 -- ---- what is held
 

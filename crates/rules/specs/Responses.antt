@@ -19,7 +19,7 @@ pub use Rattle.moves.specs.Moves.{over, valueRead, become, serviceOf, entriesOf
 unfoldable pub use Rattle.service_walk.specs.Services.{walkInto, servicesDone, servicesFound, servicesHeard}
 pub use Rattle.characteristic_walk.specs.Characteristics.{descriptorsFound}
 unfoldable pub use Rattle.characteristic_walk.specs.Characteristics.{characteristicsFound, characteristicsHeard, goOn, descriptorsHeard, rangeDone, characteristicsDone}
-unfoldable pub use Rattle.errors.specs.Errors.{absent, failed}
+unfoldable pub use Rattle.rules.specs.Errors.{absent, failed}
 
 -- what the running step does with an answer of n bytes
 unfoldable pub present : World → Micros → ℕ → Asked → World

@@ -7,7 +7,7 @@ use Rattle.wire.specs.Numbers.{cidAtt, cidSignaling, cidSmp}
 use Rattle.turns.specs.World.{World, onTold}
 use Rattle.frames.specs.Payload.{payload}
 use Rattle.replies.specs.Replies.{onSignaling, onSmp}
-use Rattle.att.specs.Att.{onAtt}
+use Rattle.rules.specs.Att.{onAtt}
 
 -- n bytes of payload; other channels get nothing
 unfoldable pub onChannel : World → Micros → ℕ → ℕ → World

@@ -1,2 +1,0 @@
-pub mod Att
-pub mod Channel

@@ -1,0 +1,5 @@
+pub mod Errors
+pub mod Responses
+pub mod Att
+pub mod Channel
+pub mod Link
