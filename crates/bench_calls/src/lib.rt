@@ -1,12 +1,12 @@
 // For ./bench alone: loops of one call each, on numbers and bytes, for a Rust program to time beside the same loops of the Rust. Each
 // answers one number of what its calls gave and left, which both sides must agree on. A loop of 0 calls is its set-up alone.
 //
-// Each call stands here once, in its loop, so that the compiler can take it into the loop; crate bench_mixed has callers of several.
+// Each call stands here once, in its loop, so that the compiler can take it into the loop; crate bench_link has the loop of fragments,
+// and crate bench_mixed callers of several.
 pub mod begin;
 pub mod hear;
 pub mod play;
 pub mod row;
-mod talk;
 pub mod told;
 
 // What n advertisements cost. Row 0: a Scan, 64 advertisers, all known. Row 1: a Scan, 100 advertisers, each a miss. Row 2: a Connect
@@ -39,18 +39,4 @@ pub extern "C" fn bench_batches(
 #[no_mangle]
 pub extern "C" fn bench_timers(n: u32, store: &mut [u8], out: &mut [u8]) -> u64 {
     play::timers(n, store, out)
-}
-
-// What n fragments cost on a state with a link. Row 0: each is a notification that ends a wait. Row 1: a wait runs that looks at all
-// that is kept. Row 2: each is the response that ends a Read. Row 3: each is discovery's answer. In rows 0 and 2 n is at most 64.
-#[no_mangle]
-pub extern "C" fn bench_fragments(
-    n: u32,
-    row: u8,
-    start: bool,
-    store: &mut [u8],
-    out: &mut [u8],
-    fragment: &[u8],
-) -> u64 {
-    talk::fragments(n, row, start, store, out, fragment)
 }

@@ -1,7 +1,7 @@
 // Fragments, one after another.
-use crate::begin;
-use crate::row;
-use crate::told;
+use bench_calls::begin;
+use bench_calls::row;
+use bench_calls::told;
 use time::Micros;
 
 // The same fragment n times.

@@ -4,8 +4,8 @@ use lib.ListN.{length}
 use mathlib.Core.Path.{_≡_}
 use native.Mathlib.Omega.{arith}
 use borrow.Author.Needs.{needs}
-use Rattle.bench_calls.proofs.talk.fragments.Statement.{statement}
-use Rattle.bench_calls.proofs.talk.fragments.Tie as tie
+use Rattle.bench_link.proofs.talk.fragments.Statement.{statement}
+use Rattle.bench_link.proofs.talk.fragments.Tie as tie
 
 abbrev Inv-loop : tie.InvT-loop
 Inv-loop n row start store₀ out₀ fragment t₀ sum₀ i₀ store out t sum i = (i ≤ n) × (n ≤ 4294967295) × (length store ≡ length store₀) × (length out ≡ length out₀)
