@@ -1,4 +1,3 @@
 pub mod Lists
 pub mod Structures
 pub mod Searches
-pub mod Bodies

@@ -4,8 +4,7 @@ ghost use Prim.Native.Nat.{_+_, _≤_};
 ghost use lib.ListN.{length, take, drop};
 ghost use lib.Dec.{eqb};
 ghost use Rattle.uuid.specs.Value.{num};
-ghost use Rattle.advertising.specs.Ad.{widthOf, IsWidth, uuidOf, listedPlace, listsService};
-ghost use Rattle.advertising.specs.Body.{listedBody, listedAt};
+ghost use Rattle.advertising.specs.Ad.{widthOf, IsWidth, uuidOf, listedPlace};
 use uuid::Uuid;
 
 // Where the body of a structure stands: its start, and how many bytes it has.
@@ -93,28 +92,4 @@ pub fn search(data: &[u8], uuid: Uuid) -> Place
         at = next;
     }
     place
-}
-
-// Whether some structure lists the service.
-pub fn ad_lists_service(data: &[u8], uuid: Uuid) -> bool
-    ensures { λ r. ⌜ r ≡ listsService (num uuid) (now («data» .entry)) ⌝ }
-{
-    match search(data, uuid) {
-        Place::Body(_, _) => true,
-        Place::Nothing => false,
-    }
-}
-
-// The body of the structure that lists the service, of the data or else of the response, or an empty part of the data.
-pub fn listed_body<'a>(data: &'a [u8], response: &'a [u8], uuid: Uuid) -> &'a [u8]
-    ensures { λ r. ⌜ now r ≡ listedBody (num uuid) (now («data» .entry)) (now (response .entry)) ⌝ }
-    ensures { λ r. ⌜ r .ptr ≡ listedAt (num uuid) («data» .entry) (response .entry) ⌝ }
-{
-    match search(data, uuid) {
-        Place::Body(start, len) => &data[start..start + len],
-        Place::Nothing => match search(response, uuid) {
-            Place::Body(start, len) => &response[start..start + len],
-            Place::Nothing => &data[..0],
-        },
-    }
 }

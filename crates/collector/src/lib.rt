@@ -13,7 +13,7 @@ use uuid::Uuid;
 pub extern "C" fn barleyrope_lists_service(data: &[u8], low: u64, high: u64) -> bool
     ensures { λ r. ⌜ r ≡ listsService (low + 2 ^ 64 * high) (now («data» .entry)) ⌝ }
 {
-    advertising::ad_lists_service(data, Uuid { low, high })
+    listing::ad_lists_service(data, Uuid { low, high })
 }
 
 // Where the body of the first structure that lists the service stands; both places keep what they held where none does.

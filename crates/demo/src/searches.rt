@@ -33,7 +33,7 @@ fn find<'a>(data: &'a [u8], response: &'a [u8], u: Uuid) {
             Place::Nothing => say::text(b": not listed"),
         },
     }
-    say::bytes(advertising::listed_body(data, response, u));
+    say::bytes(listing::listed_body(data, response, u));
     say::line(b"");
 }
 

@@ -88,7 +88,7 @@ pub extern "C" fn leaf_listed_body<'a>(
     ensures { λ r. ⌜ r ≡ length (listedBody (low + 2 ^ 64 * high) (now («data» .entry)) (now (response .entry))) ⌝ }
     ensures { λ r. ⌜ now (out .exit) ≡ splice (now (out .entry)) 0 (listedBody (low + 2 ^ 64 * high) (now («data» .entry)) (now (response .entry))) 0 r ⌝ }
 {
-    let body = advertising::listed_body(data, response, Uuid { low, high });
+    let body = listing::listed_body(data, response, Uuid { low, high });
     let n = body.len();
     base::copy_in(out, 0, body, 0, n);
     n

@@ -74,7 +74,7 @@ fn search_row(input: &[u8], answer: &[u8]) -> bool {
         return false;
     }
     same_flag(
-        advertising::ad_lists_service(&input[UUID_LEN..], uuid_of(input)),
+        listing::ad_lists_service(&input[UUID_LEN..], uuid_of(input)),
         answer,
     )
 }

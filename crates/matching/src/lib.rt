@@ -149,7 +149,7 @@ fn responds(store: &[u8], i: usize, len: u8, uuid: Uuid) -> bool
     }
     let from = places::response_at(i);
     let to = from + wide(len);
-    advertising::ad_lists_service(&store[from..to], uuid)
+    listing::ad_lists_service(&store[from..to], uuid)
 }
 
 // Whether the target is met by the advertiser of report i.
@@ -161,7 +161,7 @@ fn is_reached(target: Target, who: u64, store: &[u8], i: usize, len: u8, data: &
         Target::Any => true,
         Target::Address(a) => reports::key_of(a) == who,
         Target::Service(uuid) => {
-            if advertising::ad_lists_service(data, uuid) {
+            if listing::ad_lists_service(data, uuid) {
                 return true;
             }
             responds(store, i, len, uuid)

@@ -160,5 +160,5 @@ pub fn report_body<'a>(s: State, store: &'a [u8], i: usize, uuid: Uuid) -> &'a [
 {
     let data = report_data(s, store, i);
     let response = report_response(s, store, i);
-    advertising::listed_body(data, response, uuid)
+    listing::listed_body(data, response, uuid)
 }

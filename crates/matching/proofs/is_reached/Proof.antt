@@ -5,7 +5,7 @@ use Rattle.matching.proofs.is_reached.Statement.{statement}
 use Rattle.matching.proofs.is_reached.Tie as tie
 use Rattle.matching.proofs.is_reached.Reads as reads
 use Rattle.matching.proofs.is_reached.Lts as lts
-use Rattle.advertising.proofs.ad_lists_service.Reads as ad-lists-service-reads
+use Rattle.listing.proofs.ad_lists_service.Reads as ad-lists-service-reads
 use Rattle.matching.proofs.responds.Reads as responds-reads
 use Rattle.reports.proofs.key_of.Reads as key-of-reads
 

@@ -5,7 +5,7 @@ use Rattle.matching.proofs.responds.Statement.{statement}
 use Rattle.matching.proofs.responds.Tie as tie
 use Rattle.matching.proofs.responds.Reads as reads
 use Rattle.matching.proofs.responds.Lts as lts
-use Rattle.advertising.proofs.ad_lists_service.Reads as ad-lists-service-reads
+use Rattle.listing.proofs.ad_lists_service.Reads as ad-lists-service-reads
 use Rattle.matching.proofs.wide.Reads as wide-reads
 use Rattle.places.proofs.response_at.Reads as response-at-reads
 

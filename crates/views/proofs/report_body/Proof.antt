@@ -8,7 +8,7 @@ use Rattle.views.proofs.report_body.Statement.{statement}
 use Rattle.views.proofs.report_body.Tie as tie
 use Rattle.views.proofs.report_body.Reads as reads
 use Rattle.views.proofs.report_body.Lts as lts
-use Rattle.advertising.proofs.listed_body.Reads as listed-body-reads
+use Rattle.listing.proofs.listed_body.Reads as listed-body-reads
 use Rattle.views.proofs.report_data.Reads as report-data-reads
 use Rattle.views.proofs.report_response.Reads as report-response-reads
 

@@ -2,11 +2,11 @@ use mathlib.Core.Path.{sym, _∙_}
 use native.Mathlib.Omega.{arith}
 use denote.Ref.{now}
 use Rattle.uuid.specs.Value.{num}
 use Rattle.advertising.proofs.Searches.{found-at}
-use Rattle.advertising.proofs.Bodies.{in-data, in-response, in-neither}
+use Rattle.listing.proofs.Bodies.{in-data, in-response, in-neither}
 use borrow.Author.Needs.{needs}
-use Rattle.advertising.proofs.listed_body.Statement.{statement}
-use Rattle.advertising.proofs.listed_body.Tie as tie
+use Rattle.listing.proofs.listed_body.Statement.{statement}
+use Rattle.listing.proofs.listed_body.Tie as tie
 
 search-requires : tie.Need-search-requires
 search-requires c κs = search needs

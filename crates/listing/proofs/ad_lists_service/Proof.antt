@@ -1,11 +1,11 @@
 use mathlib.Core.Path.{sym, ap, _∙_}
 use denote.Ref.{now}
 use Rattle.uuid.specs.Value.{num}
 use Rattle.advertising.specs.Ad.{structures}
 use Rattle.advertising.proofs.Searches.{any-found, isBody}
 use borrow.Author.Needs.{needs}
-use Rattle.advertising.proofs.ad_lists_service.Statement.{statement}
-use Rattle.advertising.proofs.ad_lists_service.Tie as tie
+use Rattle.listing.proofs.ad_lists_service.Statement.{statement}
+use Rattle.listing.proofs.ad_lists_service.Tie as tie
 
 search-requires : tie.Need-search-requires
 search-requires c κs = search needs
