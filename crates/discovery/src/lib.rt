@@ -57,7 +57,7 @@ pub fn discover_services(t: Turn, out: &mut [u8], at: Micros, from: u16) -> Turn
     requires { ⌜ Room (t .sent) (length (now out)) 7 ⌝ }
     ensures { λ r. ⌜ ((s : List ℕ) → world r s (now (out .exit)) ≡ discoverServices (world t s (now (out .entry))) at from) ⌝ }
 {
-    let pdu = att_pdu::read_by_group_type_req(from, LAST_HANDLE, PRIMARY_SERVICE);
+    let pdu = att_requests::read_by_group_type_req(from, LAST_HANDLE, PRIMARY_SERVICE);
     let u = ask_from(t, SERVICES, from);
     turns::request(u, out, at, &pdu)
 }
@@ -67,7 +67,7 @@ fn ask_information(t: Turn, out: &mut [u8], at: Micros, start: u16, end: u16) ->
     requires { ⌜ Room (t .sent) (length (now out)) 7 ⌝ }
     ensures { λ r. ⌜ ((s : List ℕ) → world r s (now (out .exit)) ≡ request (asking (world t s (now (out .entry))) 2 start) at (findInformationReq start end)) ⌝ }
 {
-    let pdu = att_pdu::find_information_req(start, end);
+    let pdu = att_requests::find_information_req(start, end);
     let u = ask_from(t, DESCRIPTORS, start);
     turns::request(u, out, at, &pdu)
 }
@@ -77,7 +77,7 @@ fn ask_type(t: Turn, out: &mut [u8], at: Micros, from: u16, end: u16) -> Turn
     requires { ⌜ Room (t .sent) (length (now out)) 7 ⌝ }
     ensures { λ r. ⌜ ((s : List ℕ) → world r s (now (out .exit)) ≡ request (asking (world t s (now (out .entry))) 1 from) at (readByTypeReq from end characteristicType)) ⌝ }
 {
-    let pdu = att_pdu::read_by_type_req(from, end, CHARACTERISTIC);
+    let pdu = att_requests::read_by_type_req(from, end, CHARACTERISTIC);
     let u = ask_from(t, CHARACTERISTICS, from);
     turns::request(u, out, at, &pdu)
 }

@@ -9,7 +9,7 @@ use Rattle.discovery.proofs.ask_information.Statement.{statement}
 use Rattle.discovery.proofs.ask_information.Tie as tie
 use Rattle.discovery.proofs.ask_information.Reads as reads
 use Rattle.discovery.proofs.ask_information.Lts as lts
-use Rattle.att_pdu.proofs.find_information_req.Reads as find-information-req-reads
+use Rattle.att_requests.proofs.find_information_req.Reads as find-information-req-reads
 use Rattle.discovery.proofs.ask_from.Reads as ask-from-reads
 use Rattle.turns.proofs.request.Reads as request-reads
 

@@ -9,7 +9,7 @@ use Rattle.discovery.proofs.ask_type.Statement.{statement}
 use Rattle.discovery.proofs.ask_type.Tie as tie
 use Rattle.discovery.proofs.ask_type.Reads as reads
 use Rattle.discovery.proofs.ask_type.Lts as lts
-use Rattle.att_pdu.proofs.read_by_type_req.Reads as read-by-type-req-reads
+use Rattle.att_requests.proofs.read_by_type_req.Reads as read-by-type-req-reads
 use Rattle.discovery.proofs.ask_from.Reads as ask-from-reads
 use Rattle.turns.proofs.request.Reads as request-reads
 

@@ -9,7 +9,7 @@ use Rattle.discovery.proofs.discover_services.Statement.{statement}
 use Rattle.discovery.proofs.discover_services.Tie as tie
 use Rattle.discovery.proofs.discover_services.Reads as reads
 use Rattle.discovery.proofs.discover_services.Lts as lts
-use Rattle.att_pdu.proofs.read_by_group_type_req.Reads as read-by-group-type-req-reads
+use Rattle.att_requests.proofs.read_by_group_type_req.Reads as read-by-group-type-req-reads
 use Rattle.discovery.proofs.ask_from.Reads as ask-from-reads
 use Rattle.turns.proofs.request.Reads as request-reads
 
