@@ -1,4 +1,4 @@
--- Numbers in bytes, the least significant first: Core Vol 3 Part A 2.2, Part F 2.4 (all multi-octet fields are little-endian).
+-- Numbers in bytes, the least significant first: Core Vol 3 Part A 3 and Part F 3.3.1 (fields of several octets are little-endian).
 use Prim.Native.Nat.{ℕ, zero, suc, _+_, _*_, _/_, _%_}
 use mathlib.Core.List.{List, [], _∷_}
 use lib.ListN.{length, take, drop}

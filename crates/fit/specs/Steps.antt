@@ -10,7 +10,7 @@ use Rattle.state.specs.declared.Step.the-variants.{Scan, Connect, ExchangeMtu, 
 abbrev pub implies : Bool → Bool → Bool
 implies p x = not p || x
 
--- the ATT_MTU of a link: the least that LE allows (Core Vol 3 Part A 2.4, Part G 5.2.1), and the most that a held frame has room for
+-- the ATT_MTU of a link: the least that LE allows (Core Vol 3 Part A 5.1, Part G 5.2.1), and the most that a held frame has room for
 abbrev pub leastMtu : ℕ
 leastMtu = 23
 
