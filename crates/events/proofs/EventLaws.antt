@@ -39,11 +39,9 @@ module _ (t : Turn) (st out : List ℕ) (at : Micros) (x : Running) (ex : x ≡ 
   unfolding expire
   expire-rests h = rw (← tested, h)
 
-  module _ (h : d ≡ true) (status : StepStatus) (es : status ≡ timedOut (x .step)) (s : State) (st₁ : List ℕ) (ef : held s st₁ ≡ finish (held (t .state) st) at status heldAt 0) where
+  module _ (h : d ≡ true) (s : State) (st₁ : List ℕ) (ef : held s st₁ ≡ finish (held (t .state) st) at (timedOut (t .state .running .step)) heldAt 0) where
     ended : world (turned t s) st₁ out ≡ onHeld (world t st out) (ends (held (t .state) st) at (timedOut (central (t .state) .running .step)))
-    ended =
-        ap (λ (i : Held). onHeld (world t st out) i)
-        (ef ∙ ap (λ (k : StepStatus). ends (held (t .state) st) at k) (es ∙ ap (λ (r : Running). timedOut (r .step)) ex))
+    ended = ap (λ (i : Held). onHeld (world t st out) i) ef
 
     pub expire-may : Sound 65 (world t st out) → Sound 65 (world (turned t s) st₁ out)
     expire-may w =

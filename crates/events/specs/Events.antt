@@ -1,47 +1,26 @@
 -- on_timer, on_connected and on_disconnected (01, 'Rules of the link': what each ends, what each keeps).
 use Prim.Native.Nat.{ℕ}
-use mathlib.Core.Bool.{Bool, true, false, _&&_}
+use mathlib.Core.Bool.{Bool, true, false}
 use mathlib.Core.List.{List}
 use lib.ListN.{length}
-use lib.Dec.{eqb, leb}
+use lib.Dec.{eqb}
 use Rattle.base.specs.Choice.{pick}
 use Rattle.time.specs.declared.Micros.{Micros}
 use Rattle.state.specs.Central.{Central, withBearer}
-use Rattle.state.specs.declared.Bearer.{Bearer}
-use Rattle.state.specs.declared.Running.{Running}
 use Rattle.state.specs.declared.Step.{Step}
 use Rattle.state.specs.declared.Step.the-variants.{Scan, Connect, ExchangeMtu, DiscoverServices, DiscoverCharacteristics, Subscribe, Write, Read, WaitNotification, Wait, Disconnect, Capture, CaptureSecrets}
 use Rattle.state.specs.declared.StepStatus.{StepStatus}
-use Rattle.state.specs.declared.StepStatus.the-variants.{Ok, Timeout, Disconnected}
-use Rattle.fit.specs.Steps.{leastMtu}
+use Rattle.state.specs.declared.StepStatus.the-variants.{Ok, Disconnected}
 use Rattle.fit.specs.Gate.{gate, gateQuiet}
 use Rattle.fit.specs.Refusals.{accepted}
 use Rattle.turns.specs.World.{Held, World, onHeld, onState}
 use Rattle.starts.specs.Start.{ends}
+pub use Rattle.bearers.specs.Bearers.{linked, unlinked}
+pub use Rattle.timeouts.specs.Timeouts.{timedOut, due}
 use Rattle.script.specs.Script.{advance, advanceUnlinked}
 use Rattle.calls.specs.Outcome.{Outcome, Quiet, begins, done, refused, quietly, quietlyRefused}
 
 -- ---- the timer
-
--- a scan or a wait is over; any other step is late
-abbrev pub timedOut : Step → StepStatus
-timedOut (Scan ms) = Ok
-timedOut (Connect target interval latency timeout ms) = Timeout
-timedOut (ExchangeMtu mtu) = Timeout
-timedOut DiscoverServices = Timeout
-timedOut (DiscoverCharacteristics service) = Timeout
-timedOut (Subscribe characteristic indicate) = Timeout
-timedOut (Write characteristic response) = Timeout
-timedOut (Read characteristic) = Timeout
-timedOut (WaitNotification characteristic ms) = Timeout
-timedOut (Wait ms) = Ok
-timedOut Disconnect = Timeout
-timedOut (Capture enabled) = Timeout
-timedOut (CaptureSecrets secrets) = Timeout
-
--- a step runs, and its deadline is now or before
-abbrev pub due : Running → Micros → Bool
-due r at = r .active && (r .dated && leb (r .deadline .0) (at .0))
 
 unfoldable pub expire : World → Micros → World
 expire w at =
@@ -54,10 +33,6 @@ onTimer c store out at =
     pick (eqb g accepted) (done (expire (begins c store out) at)) (refused c g store out)
 
 -- ---- a link comes
-
--- a new link: the default MTU (Core Vol 3 Part F 3.2.8), nothing held, awaited or asked to end
-abbrev pub linked : ℕ → Bearer
-linked handle = record { held = 0; link = record { handle = handle; mtu = leastMtu; pending = 0; terminating = false }; present = true }
 
 abbrev pub isConnect : Step → Bool
 isConnect (Scan ms) = false
@@ -87,9 +62,6 @@ onConnected c store out handle at =
     pick (eqb g accepted) (done (connect (begins c store out) handle at)) (refused c g store out)
 
 -- ---- a link goes
-
-abbrev pub unlinked : Bearer → Bearer
-unlinked b = record { held = b .held; link = b .link; present = false }
 
 -- what becomes of a running step: a scan, a wait and a connect go on; a Disconnect is done; every other step is cut off
 abbrev pub goesOn : Step → Bool

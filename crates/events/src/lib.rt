@@ -8,12 +8,10 @@ ghost use Rattle.state.specs.Central.{central};
 ghost use Rattle.turns.specs.World.{held, world};
 ghost use Rattle.keeps.specs.Sound.{Sound, Whole};
 ghost use Rattle.calls.specs.Outcome.{outcome, quiet};
-ghost use Rattle.events.specs.Events.{timedOut, due, expire, onTimer, linked, isConnect, greeted, connect, onConnected, unlinked, goesOn, cutStatus, cutOff, lose, onDisconnected};
+ghost use Rattle.events.specs.Events.{expire, onTimer, isConnect, greeted, connect, onConnected, goesOn, cutStatus, cutOff, lose, onDisconnected};
 use calls::Answer;
 use calls::QuietAnswer;
 use fit::refusal;
-use state::Bearer;
-use state::Running;
 use state::State;
 use state::Step;
 use state::StepStatus;
@@ -22,50 +20,6 @@ use time::Micros;
 
 // ---- the timer
 
-// How a step that is due ends.
-fn timed_out(step: Step) -> StepStatus
-    ensures { λ r. ⌜ r ≡ timedOut step ⌝ }
-{
-    match step {
-        Step::Scan { ms: _ } => StepStatus::Ok,
-        Step::Connect {
-            target: _,
-            interval: _,
-            latency: _,
-            timeout: _,
-            within_ms: _,
-        } => StepStatus::Timeout,
-        Step::ExchangeMtu { mtu: _ } => StepStatus::Timeout,
-        Step::DiscoverServices => StepStatus::Timeout,
-        Step::DiscoverCharacteristics { service: _ } => StepStatus::Timeout,
-        Step::Subscribe {
-            characteristic: _,
-            indicate: _,
-        } => StepStatus::Timeout,
-        Step::Write {
-            characteristic: _,
-            with_response: _,
-        } => StepStatus::Timeout,
-        Step::Read { characteristic: _ } => StepStatus::Timeout,
-        Step::WaitNotification {
-            characteristic: _,
-            within_ms: _,
-        } => StepStatus::Timeout,
-        Step::Wait { ms: _ } => StepStatus::Ok,
-        Step::Disconnect => StepStatus::Timeout,
-        Step::Capture { enabled: _ } => StepStatus::Timeout,
-        Step::CaptureSecrets { secrets: _ } => StepStatus::Timeout,
-    }
-}
-
-// Whether a step runs whose deadline is now or before.
-fn is_due(r: Running, at: Micros) -> bool
-    ensures { λ x. ⌜ x ≡ due r at ⌝ }
-{
-    let deadline = r.deadline;
-    r.active & (r.dated & (deadline.0 <= at.0))
-}
-
 fn expire(t: Turn, store: &mut [u8], out: &mut [u8], at: Micros) -> Turn
     requires { ⌜ Sound 65 (world t (now store) (now out)) × (at .0 ≤ latest) ⌝ }
     ensures { λ r. ⌜ world r (now (store .exit)) (now (out .exit)) ≡ expire (world t (now (store .entry)) (now (out .entry))) at ⌝ }
@@ -73,9 +27,8 @@ fn expire(t: Turn, store: &mut [u8], out: &mut [u8], at: Micros) -> Turn
     let s = t.state;
     let sent = t.sent;
     let running = state::parts::running_of(s);
-    if is_due(running, at) {
-        let step = running.step;
-        let state = turns::finish(s, store, at, timed_out(step), places::HELD_AT, 0);
+    if timeouts::is_due(running, at) {
+        let state = timeouts::end_step(s, store, at);
         let u = Turn { state, sent };
         return script::advance(u, store, out, at);
     }
@@ -95,19 +48,6 @@ pub fn on_timer(state: State, store: &mut [u8], out: &mut [u8], at: Micros) -> A
 }
 
 // ---- a link comes
-
-// A new link, whatever stood there.
-fn linked(b: Bearer, handle: u16) -> Bearer
-    ensures { λ r. ⌜ r ≡ linked handle ⌝ }
-{
-    let was = b.link;
-    let link = lent::opened(was, handle);
-    Bearer {
-        held: 0,
-        link,
-        present: true,
-    }
-}
 
 fn is_connect(step: Step) -> bool
     ensures { λ r. ⌜ r ≡ isConnect step ⌝ }
@@ -164,7 +104,7 @@ fn connect(t: Turn, store: &mut [u8], out: &mut [u8], handle: u16, at: Micros) -
     let s = t.state;
     let sent = t.sent;
     let b = state::parts::bearer_of(s);
-    let a = state::parts::with_bearer(s, linked(b, handle));
+    let a = state::parts::with_bearer(s, bearers::linked(b, handle));
     let state = greet(a, store, at);
     let u = Turn { state, sent };
     script::advance(u, store, out, at)
@@ -189,14 +129,6 @@ pub fn on_connected(
 }
 
 // ---- a link goes
-
-fn unlinked(b: Bearer) -> Bearer
-    ensures { λ r. ⌜ r ≡ unlinked b ⌝ }
-{
-    let mut o = b;
-    o.present = false;
-    o
-}
 
 // Whether a step needs no link.
 fn goes_on(step: Step) -> bool
@@ -287,7 +219,7 @@ fn lose(s: State, store: &mut [u8], at: Micros) -> State
     ensures { λ r. ⌜ held r (now (store .exit)) ≡ lose (held s (now (store .entry))) at ⌝ }
 {
     let b = state::parts::bearer_of(s);
-    let a = state::parts::with_bearer(s, unlinked(b));
+    let a = state::parts::with_bearer(s, bearers::unlinked(b));
     let cut = cut_off(a, store, at);
     script::advance_unlinked(cut, store, at)
 }

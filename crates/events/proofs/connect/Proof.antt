@@ -5,7 +5,7 @@ use Rattle.events.proofs.connect.Tie as tie
 use Rattle.events.proofs.connect.Reads as reads
 use Rattle.events.proofs.connect.Lts as lts
 use Rattle.events.proofs.greet.Reads as greet-reads
-use Rattle.events.proofs.linked.Reads as linked-reads
+use Rattle.bearers.proofs.linked.Reads as linked-reads
 use Rattle.script.proofs.advance.Reads as advance-reads
 use Rattle.state.proofs.parts.bearer_of.Reads as bearer-of-reads
 use Rattle.state.proofs.parts.with_bearer.Reads as with-bearer-reads

@@ -4,11 +4,10 @@ use Rattle.events.proofs.expire.Statement.{statement}
 use Rattle.events.proofs.expire.Tie as tie
 use Rattle.events.proofs.expire.Reads as reads
 use Rattle.events.proofs.expire.Lts as lts
-use Rattle.events.proofs.is_due.Reads as is-due-reads
-use Rattle.events.proofs.timed_out.Reads as timed-out-reads
 use Rattle.script.proofs.advance.Reads as advance-reads
 use Rattle.state.proofs.parts.running_of.Reads as running-of-reads
-use Rattle.turns.proofs.finish.Reads as finish-reads
+use Rattle.timeouts.proofs.end_step.Reads as end-step-reads
+use Rattle.timeouts.proofs.is_due.Reads as is-due-reads
 
 -- src/lib.rt:76:9
 running-of-requires : tie.Need-running-of-requires
@@ -18,17 +17,13 @@ running-of-requires c κs = search needs
 is-due-requires : tie.Need-is-due-requires
 is-due-requires c κs = search needs
 
--- src/lib.rt:79:49
-timed-out-requires : tie.Need-timed-out-requires
-timed-out-requires c κs = search needs
-
 -- src/lib.rt:79:13
-finish-requires : tie.Need-finish-requires
-finish-requires c κs = search needs
+end-step-requires : tie.Need-end-step-requires
+end-step-requires c κs = search needs
 
 -- src/lib.rt:81:9
 advance-requires : tie.Need-advance-requires
-advance-requires c κs = (expire-may (c .before .before .before .before .before .before .before .before .before .before .before .before .before .before .args .t) (c .before .before .before .before .before .before .before .before .before .before .before .before .before .before .args .store .now) (c .before .before .before .before .before .before .before .before .before .before .before .before .before .before .args .out .now) (c .before .before .before .before .before .before .before .before .before .before .before .before .before .before .args .at) _ (c .before .before .before .before .before .before .before .before .before .running-of .ensures) _ (c .before .before .before .before .before .before .before .before .is-due .ensures) (c .before .before .before .before .before .before .before .if1 .taken) _ (c .before .before .before .before .before .timed-out .ensures) _ _ (c .before .before .before .before .finish .ensures) (c .before .before .before .before .before .before .before .before .before .before .before .before .before .before .pre .0), (c .before .before .before .before .before .before .before .before .before .before .before .before .before .before .pre .1))
+advance-requires c κs = (expire-may (c .before .before .before .before .before .before .before .before .before .before .before .before .before .args .t) (c .before .before .before .before .before .before .before .before .before .before .before .before .before .args .store .now) (c .before .before .before .before .before .before .before .before .before .before .before .before .before .args .out .now) (c .before .before .before .before .before .before .before .before .before .before .before .before .before .args .at) _ (c .before .before .before .before .before .before .before .before .running-of .ensures) _ (c .before .before .before .before .before .before .before .is-due .ensures) (c .before .before .before .before .before .before .if1 .taken) _ _ (c .before .before .before .before .end-step .ensures) (c .before .before .before .before .before .before .before .before .before .before .before .before .before .pre .0), c .before .before .before .before .before .before .before .before .before .before .before .before .before .pre .1)
 
 -- src/lib.rt:81:9
 same-length : tie.Need-same-length
@@ -40,7 +35,7 @@ same-length-2 c = search needs
 
 -- src/lib.rt:81:9
 returns : tie.Need-returns
-returns c = expire-done (c .before .before .before .before .before .before .before .before .before .before .before .before .before .before .before .before .before .before .before .args .t) (c .before .before .before .before .before .before .before .before .before .before .before .before .before .before .before .before .before .before .before .args .store .now) (c .before .before .before .before .before .before .before .before .before .before .before .before .before .before .before .before .before .before .before .args .out .now) (c .before .before .before .before .before .before .before .before .before .before .before .before .before .before .before .before .before .before .before .args .at) _ (c .before .before .before .before .before .before .before .before .before .before .before .before .before .before .running-of .ensures) _ (c .before .before .before .before .before .before .before .before .before .before .before .before .before .is-due .ensures) (c .before .before .before .before .before .before .before .before .before .before .before .before .if1 .taken) _ (c .before .before .before .before .before .before .before .before .before .before .timed-out .ensures) _ _ (c .before .before .before .before .before .before .before .before .before .finish .ensures) _ _ _ (c .before .before .before .before .advance .ensures)
+returns c = expire-done (c .before .before .before .before .before .before .before .before .before .before .before .before .before .before .before .before .before .before .args .t) (c .before .before .before .before .before .before .before .before .before .before .before .before .before .before .before .before .before .before .args .store .now) (c .before .before .before .before .before .before .before .before .before .before .before .before .before .before .before .before .before .before .args .out .now) (c .before .before .before .before .before .before .before .before .before .before .before .before .before .before .before .before .before .before .args .at) _ (c .before .before .before .before .before .before .before .before .before .before .before .before .before .running-of .ensures) _ (c .before .before .before .before .before .before .before .before .before .before .before .before .is-due .ensures) (c .before .before .before .before .before .before .before .before .before .before .before .if1 .taken) _ _ (c .before .before .before .before .before .before .before .before .before .end-step .ensures) _ _ _ (c .before .before .before .before .advance .ensures)
 
 -- src/lib.rt:70:1
 returns-2 : tie.Need-returns-2
@@ -52,8 +47,7 @@ expire-spec =
     (tie.spec
     running-of-requires
     is-due-requires
-    timed-out-requires
-    finish-requires
+    end-step-requires
     advance-requires
     same-length
     same-length-2

@@ -5,7 +5,7 @@ use Rattle.events.proofs.lose.Tie as tie
 use Rattle.events.proofs.lose.Reads as reads
 use Rattle.events.proofs.lose.Lts as lts
 use Rattle.events.proofs.cut_off.Reads as cut-off-reads
-use Rattle.events.proofs.unlinked.Reads as unlinked-reads
+use Rattle.bearers.proofs.unlinked.Reads as unlinked-reads
 use Rattle.script.proofs.advance_unlinked.Reads as advance-unlinked-reads
 use Rattle.state.proofs.parts.bearer_of.Reads as bearer-of-reads
 use Rattle.state.proofs.parts.with_bearer.Reads as with-bearer-reads

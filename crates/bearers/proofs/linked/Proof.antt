@@ -3,10 +3,10 @@ use mathlib.Core.Bool.{true}
 use borrow.Author.Needs.{needs}
 use Rattle.state.specs.declared.Link.{Link}
 use Rattle.state.specs.declared.Bearer.{Bearer}
-use Rattle.events.proofs.linked.Statement.{statement}
-use Rattle.events.proofs.linked.Tie as tie
-use Rattle.events.proofs.linked.Reads as reads
-use Rattle.events.proofs.linked.Lts as lts
+use Rattle.bearers.proofs.linked.Statement.{statement}
+use Rattle.bearers.proofs.linked.Tie as tie
+use Rattle.bearers.proofs.linked.Reads as reads
+use Rattle.bearers.proofs.linked.Lts as lts
 use Rattle.lent.proofs.opened.Reads as opened-reads
 
 -- a bearer with this link, and nothing held
