@@ -36,7 +36,7 @@ use Rattle.calls.specs.declared.Answer.{Answer}
 use Rattle.calls.proofs.BeginLaws.{begins-sound}
 use Rattle.calls.proofs.GateLaws.{goes-through, is-stopped}
 use Rattle.batch.specs.Batch.{placedFits, batchFits, refusedBelow, countersFit, gateBatch, pushSteps}
-use Rattle.batch.proofs.FitLaws.{batch-count, batch-placed}
+use Rattle.batches.proofs.BatchLaws.{batch-count, batch-placed}
 use Rattle.batch.proofs.PushLaws.{largest}
 
 -- ---- what a gate that refuses nothing has shown

@@ -21,7 +21,7 @@ use Rattle.waiting.specs.declared.Placed.{Placed}
 use Rattle.waiting.specs.Batch.{valueLen, queued}
 use Rattle.waiting.specs.Waiting.{live, queueing, refusing, pushOne, pushAll}
 use Rattle.batch.specs.Batch.{placedFits}
-use Rattle.batch.proofs.FitLaws.{noPlaced}
+use Rattle.batches.proofs.BatchLaws.{noPlaced}
 
 -- the largest number that a counter can hold
 abbrev pub largest : ℕ

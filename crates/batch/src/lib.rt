@@ -2,7 +2,7 @@
 ghost use mathlib.Core.Path.{_≡_};
 ghost use mathlib.Core.Bool.{true};
 ghost use Prim.Native.Nat.{_+_, _≤_, _<_};
-ghost use lib.ListN.{length, take};
+ghost use lib.ListN.{length};
 ghost use Rattle.places.specs.Sizes.{mostSteps};
 ghost use Rattle.queues.specs.Queue.{all};
 ghost use Rattle.state.specs.Central.{central};
@@ -10,75 +10,12 @@ ghost use Rattle.turns.specs.World.{held};
 ghost use Rattle.waiting.specs.Batch.{steps};
 ghost use Rattle.waiting.specs.Waiting.{pushAll};
 ghost use Rattle.calls.specs.Outcome.{outcome};
-ghost use Rattle.batch.specs.Batch.{placedFits, batchFits, countersFit, gateBatch, pushSteps};
+ghost use Rattle.batch.specs.Batch.{placedFits, gateBatch, pushSteps};
 use calls::Answer;
 use fit::refusal;
-use state::Counters;
 use state::State;
 use time::Micros;
 use waiting::Batch;
-use waiting::Placed;
-
-// The most that may have been refused before a batch is below 2^62.
-const MAX_REFUSED: u64 = 4_611_686_018_427_387_904;
-
-// ---- refusal 4
-
-// Whether a batch accepts a step, its value within size lent bytes.
-fn placed_fits(p: Placed, size: usize) -> bool
-    ensures { λ r. ⌜ r ≡ placedFits size p ⌝ }
-{
-    let step = p.step;
-    let len = p.len;
-    let place = p.place;
-    if !fit::step_fits(step, len) {
-        return false;
-    }
-    if !fit::carries(step) {
-        return true;
-    }
-    if size < len {
-        return false;
-    }
-    place <= size - len
-}
-
-fn all_fit(steps: [Placed; 64], count: usize, size: usize) -> bool
-    requires { ⌜ count ≤ mostSteps ⌝ }
-    ensures { λ r. ⌜ r ≡ all (placedFits size) (take count steps) ⌝ }
-{
-    let mut i = 0;
-    while i < count {
-        let p = steps[i];
-        if !placed_fits(p, size) {
-            return false;
-        }
-        i += 1;
-    }
-    true
-}
-
-fn batch_fits(b: Batch, size: usize) -> bool
-    ensures { λ r. ⌜ r ≡ batchFits size b ⌝ }
-{
-    let count = b.count;
-    if places::MAX_STEPS < count {
-        return false;
-    }
-    let steps = b.steps;
-    all_fit(steps, count, size)
-}
-
-// ---- refusal 5
-
-fn counters_fit(k: Counters, waiting: usize, count: usize) -> bool
-    requires { ⌜ (waiting ≤ mostSteps) × (count ≤ mostSteps) ⌝ }
-    ensures { λ r. ⌜ r ≡ countersFit k waiting count ⌝ }
-{
-    let next = k.next_index as usize;
-    let last = next + waiting + count;
-    (last <= fit::LAST_INDEX) & (k.refused_steps < MAX_REFUSED)
-}
 
 // ---- the gate
 
@@ -89,12 +26,12 @@ fn gate_batch(s: State, store_len: usize, out_len: usize, at: Micros, b: Batch, 
     if shared != refusal::ACCEPTED {
         return shared;
     }
-    if !batch_fits(b, size) {
+    if !batches::batch_fits(b, size) {
         return refusal::BAD_BATCH;
     }
     let n = s.counts;
     let k = s.counters;
-    if !counters_fit(k, n.waiting, b.count) {
+    if !batches::counters_fit(k, n.waiting, b.count) {
         return refusal::COUNTER_FULL;
     }
     refusal::ACCEPTED

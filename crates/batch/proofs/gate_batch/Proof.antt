@@ -5,8 +5,8 @@ use Rattle.batch.proofs.gate_batch.Statement.{statement}
 use Rattle.batch.proofs.gate_batch.Tie as tie
 use Rattle.batch.proofs.gate_batch.Reads as reads
 use Rattle.batch.proofs.gate_batch.Lts as lts
-use Rattle.batch.proofs.batch_fits.Reads as batch-fits-reads
-use Rattle.batch.proofs.counters_fit.Reads as counters-fit-reads
+use Rattle.batches.proofs.batch_fits.Reads as batch-fits-reads
+use Rattle.batches.proofs.counters_fit.Reads as counters-fit-reads
 use Rattle.fit.proofs.gate.Reads as gate-reads
 
 -- src/lib.rt:94:9

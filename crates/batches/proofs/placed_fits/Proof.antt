@@ -1,9 +1,9 @@
-use Rattle.batch.proofs.FitLaws.{placed-bad, placed-bare, placed-long, placed-in}
+use Rattle.batches.proofs.BatchLaws.{placed-bad, placed-bare, placed-long, placed-in}
 use borrow.Author.Needs.{needs}
-use Rattle.batch.proofs.placed_fits.Statement.{statement}
-use Rattle.batch.proofs.placed_fits.Tie as tie
-use Rattle.batch.proofs.placed_fits.Reads as reads
-use Rattle.batch.proofs.placed_fits.Lts as lts
+use Rattle.batches.proofs.placed_fits.Statement.{statement}
+use Rattle.batches.proofs.placed_fits.Tie as tie
+use Rattle.batches.proofs.placed_fits.Reads as reads
+use Rattle.batches.proofs.placed_fits.Lts as lts
 use Rattle.fit.proofs.carries.Reads as carries-reads
 use Rattle.fit.proofs.step_fits.Reads as step-fits-reads
 

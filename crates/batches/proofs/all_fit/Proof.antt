@@ -1,5 +1,5 @@
-use Rattle.batch.proofs.FitLaws.{noPlaced}
-use Rattle.batch.specs.Batch.{placedFits}
+use Rattle.batches.proofs.BatchLaws.{noPlaced}
+use Rattle.batches.specs.Batches.{placedFits}
 use Rattle.queues.specs.ScanLaws.{all-pass, all-fail, all-end}
 use Rattle.queues.specs.Queue.{all}
 use borrow.Author.Needs.{needs}
@@ -8,11 +8,11 @@ use lib.ListN.{length, take, drop}
 use native.Mathlib.Omega.{arith}
 use mathlib.Core.Path.{_≡_, refl, sym, _∙_}
 use Prim.Native.Nat.{ℕ, _≤_, _-_}
-use Rattle.batch.proofs.all_fit.Statement.{statement}
-use Rattle.batch.proofs.all_fit.Tie as tie
-use Rattle.batch.proofs.all_fit.Reads as reads
-use Rattle.batch.proofs.all_fit.Lts as lts
-use Rattle.batch.proofs.placed_fits.Reads as placed-fits-reads
+use Rattle.batches.proofs.all_fit.Statement.{statement}
+use Rattle.batches.proofs.all_fit.Tie as tie
+use Rattle.batches.proofs.all_fit.Reads as reads
+use Rattle.batches.proofs.all_fit.Lts as lts
+use Rattle.batches.proofs.placed_fits.Reads as placed-fits-reads
 
 abbrev Inv-loop : tie.InvT-loop
 Inv-loop count size steps i₀ i = (all (placedFits size) (take count steps) ≡ all (placedFits size) (drop i (take count steps))) × (length steps ≡ 64) × (count ≤ 64)

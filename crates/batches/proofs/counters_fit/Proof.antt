@@ -1,10 +1,10 @@
-use Rattle.batch.specs.Batch.{countersFit}
+use Rattle.batches.specs.Batches.{countersFit}
 use mathlib.Core.Path.{refl}
 use borrow.Author.Needs.{needs}
-use Rattle.batch.proofs.counters_fit.Statement.{statement}
-use Rattle.batch.proofs.counters_fit.Tie as tie
-use Rattle.batch.proofs.counters_fit.Reads as reads
-use Rattle.batch.proofs.counters_fit.Lts as lts
+use Rattle.batches.proofs.counters_fit.Statement.{statement}
+use Rattle.batches.proofs.counters_fit.Tie as tie
+use Rattle.batches.proofs.counters_fit.Reads as reads
+use Rattle.batches.proofs.counters_fit.Lts as lts
 
 -- src/lib.rt:77:16
 cast-next : tie.Need-cast-next

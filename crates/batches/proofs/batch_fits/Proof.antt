@@ -1,10 +1,10 @@
-use Rattle.batch.proofs.FitLaws.{batch-many, batch-each}
+use Rattle.batches.proofs.BatchLaws.{batch-many, batch-each}
 use borrow.Author.Needs.{needs}
-use Rattle.batch.proofs.batch_fits.Statement.{statement}
-use Rattle.batch.proofs.batch_fits.Tie as tie
-use Rattle.batch.proofs.batch_fits.Reads as reads
-use Rattle.batch.proofs.batch_fits.Lts as lts
-use Rattle.batch.proofs.all_fit.Reads as all-fit-reads
+use Rattle.batches.proofs.batch_fits.Statement.{statement}
+use Rattle.batches.proofs.batch_fits.Tie as tie
+use Rattle.batches.proofs.batch_fits.Reads as reads
+use Rattle.batches.proofs.batch_fits.Lts as lts
+use Rattle.batches.proofs.all_fit.Reads as all-fit-reads
 
 -- src/lib.rt:65:9
 returns : tie.Need-returns
