@@ -52,16 +52,16 @@ fn configure(handle: u16, indicate: bool) -> [u8; 5]
     if indicate {
         [
             att_pdu::op::WRITE_REQ,
-            wire::lo(handle),
-            wire::hi(handle),
+            halves::lo(handle),
+            halves::hi(handle),
             INDICATE,
             0,
         ]
     } else {
         [
             att_pdu::op::WRITE_REQ,
-            wire::lo(handle),
-            wire::hi(handle),
+            halves::lo(handle),
+            halves::hi(handle),
             NOTIFY,
             0,
         ]

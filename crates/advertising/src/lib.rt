@@ -57,9 +57,9 @@ fn equal_at(data: &[u8], at: usize, width: usize, uuid: Uuid) -> bool
         return Uuid::from_128(data, at).equals(uuid);
     }
     if width == WIDTH_32 {
-        return Uuid::from_u32(base::le32(data, at)).equals(uuid);
+        return Uuid::from_u32(numbers::le32(data, at)).equals(uuid);
     }
-    Uuid::from_u16(base::le16(data, at)).equals(uuid)
+    Uuid::from_u16(numbers::le16(data, at)).equals(uuid)
 }
 
 // Where the body of the first structure stands that lists the service.

@@ -18,7 +18,7 @@ pub mod op;
 fn with_number(opcode: u8, a: u16) -> [u8; 3]
     ensures { λ r. ⌜ r ≡ opcode ∷ leBytes 2 a ⌝ }
 {
-    [opcode, wire::lo(a), wire::hi(a)]
+    [opcode, halves::lo(a), halves::hi(a)]
 }
 
 pub fn att_error(request: u8, handle: u16, code: u8) -> [u8; 5]
@@ -27,8 +27,8 @@ pub fn att_error(request: u8, handle: u16, code: u8) -> [u8; 5]
     [
         op::ERROR_RSP,
         request,
-        wire::lo(handle),
-        wire::hi(handle),
+        halves::lo(handle),
+        halves::hi(handle),
         code,
     ]
 }

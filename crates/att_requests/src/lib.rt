@@ -11,10 +11,10 @@ fn with_range(opcode: u8, start: u16, end: u16) -> [u8; 5]
 {
     [
         opcode,
-        wire::lo(start),
-        wire::hi(start),
-        wire::lo(end),
-        wire::hi(end),
+        halves::lo(start),
+        halves::hi(start),
+        halves::lo(end),
+        halves::hi(end),
     ]
 }
 
@@ -24,12 +24,12 @@ fn with_type(opcode: u8, start: u16, end: u16, uuid16: u16) -> [u8; 7]
 {
     [
         opcode,
-        wire::lo(start),
-        wire::hi(start),
-        wire::lo(end),
-        wire::hi(end),
-        wire::lo(uuid16),
-        wire::hi(uuid16),
+        halves::lo(start),
+        halves::hi(start),
+        halves::lo(end),
+        halves::hi(end),
+        halves::lo(uuid16),
+        halves::hi(uuid16),
     ]
 }
 

@@ -161,9 +161,9 @@ fn told_at(s: &[u8], a: usize, b: usize) -> Which
     requires { ⌜ (a + 5 ≤ b) × (b ≤ length (now s)) ⌝ }
     ensures { λ r. ⌜ r ≡ told (part a b (now (s .entry))) ⌝ }
 {
-    let declaration = base::le16(s, a);
+    let declaration = numbers::le16(s, a);
     let properties = s[a + PROPERTIES_AT];
-    let value_handle = base::le16(s, a + VALUE_AT);
+    let value_handle = numbers::le16(s, a + VALUE_AT);
     match Uuid::from_att(&s[a + UUID_AT..b]) {
         uuid::Read::Is(uuid) => Which::At(Characteristic {
             declaration,
@@ -217,7 +217,7 @@ pub fn take_characteristics(
         }
         let v = a.table;
         u = v;
-        last = base::le16(s, at);
+        last = numbers::le16(s, at);
         at = next;
     }
     Found {

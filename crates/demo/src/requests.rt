@@ -80,14 +80,14 @@ fn payload(r: Request) -> [u8; 12] {
         ID,
         8,
         0,
-        wire::lo(r.min),
-        wire::hi(r.min),
-        wire::lo(r.max),
-        wire::hi(r.max),
-        wire::lo(r.latency),
-        wire::hi(r.latency),
-        wire::lo(r.timeout),
-        wire::hi(r.timeout),
+        halves::lo(r.min),
+        halves::hi(r.min),
+        halves::lo(r.max),
+        halves::hi(r.max),
+        halves::lo(r.latency),
+        halves::hi(r.latency),
+        halves::lo(r.timeout),
+        halves::hi(r.timeout),
     ]
 }
 

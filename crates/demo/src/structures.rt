@@ -43,7 +43,7 @@ fn tell_kind(kind: u8) {
 
 fn uuid_of(entry: &[u8]) -> Read {
     if entry.len() == 4 {
-        return Read::Is(Uuid::from_u32(base::le32(entry, 0)));
+        return Read::Is(Uuid::from_u32(numbers::le32(entry, 0)));
     }
     Uuid::from_att(entry)
 }

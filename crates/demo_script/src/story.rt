@@ -60,7 +60,7 @@ pub fn of_itself(i: usize) -> Happening {
 
 fn put(to: &mut [u8], s: &[u8]) -> usize {
     let n = s.len();
-    base::copy_in(to, 0, s, 0, n);
+    copies::copy_in(to, 0, s, 0, n);
     n
 }
 

@@ -141,7 +141,7 @@ fn name_one(t: Characteristics, s: &[u8], a: usize, b: usize) -> Characteristics
     requires { ⌜ (t .count ≤ mostCharacteristics) × (a + 2 ≤ b) × (b ≤ length (now s)) ⌝ }
     ensures { λ r. ⌜ r ≡ holding t (given (known t) (part a b (now (s .entry)))) ⌝ }
 {
-    let h = base::le16(s, a);
+    let h = numbers::le16(s, a);
     match Uuid::from_att(&s[a + TYPE_AT..b]) {
         uuid::Read::Is(u) => {
             if u.equals(Uuid::from_u16(CCCD)) {
@@ -171,7 +171,7 @@ pub fn name_descriptors(
     while len <= end - at {
         let past = at + len;
         u = name_one(u, s, at, past);
-        let h = base::le16(s, at) as u32;
+        let h = numbers::le16(s, at) as u32;
         next = h + 1;
         at = past;
     }

@@ -59,7 +59,7 @@ pub fn gather(s: State, store: &mut [u8], start: bool, fragment: &[u8]) -> State
     let from = held_before(b, start);
     let n = fragment.len();
     let place = places::HELD_AT + from;
-    base::copy_in(store, place, fragment, 0, n);
+    copies::copy_in(store, place, fragment, 0, n);
     let total = from + n;
     with_held(s, total)
 }
@@ -69,13 +69,13 @@ pub fn gather(s: State, store: &mut [u8], start: bool, fragment: &[u8]) -> State
 pub fn frame_length(store: &[u8]) -> usize
     ensures { λ r. ⌜ r ≡ leAt 2 (now (store .entry)) heldAt ⌝ }
 {
-    base::le16(store, places::HELD_AT) as usize
+    numbers::le16(store, places::HELD_AT) as usize
 }
 
 pub fn frame_channel(store: &[u8]) -> u16
     ensures { λ r. ⌜ r ≡ leAt 2 (now (store .entry)) (heldAt + 2) ⌝ }
 {
-    base::le16(store, CHANNEL_AT)
+    numbers::le16(store, CHANNEL_AT)
 }
 
 // Whether the frame is there to its end.

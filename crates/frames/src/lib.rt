@@ -33,7 +33,7 @@ pub fn number(store: &[u8], n: usize, i: usize) -> u16
     ensures { λ r. ⌜ r ≡ leAt 2 (bytes (now (store .entry)) payloadAt n) i ⌝ }
 {
     let end = PAYLOAD_AT + n;
-    base::le16(&store[PAYLOAD_AT..end], i)
+    numbers::le16(&store[PAYLOAD_AT..end], i)
 }
 
 // The link has this MTU from now on.

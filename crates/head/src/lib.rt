@@ -128,8 +128,8 @@ pub fn answer(frame: &[u8], to: &mut [u8]) -> usize {
     if frame.len() <= OPCODE_AT {
         return 0;
     }
-    let start = base::le16(frame, START_AT);
-    let end = base::le16(frame, END_AT);
+    let start = numbers::le16(frame, START_AT);
+    let end = numbers::le16(frame, END_AT);
     match frame[OPCODE_AT] {
         op::EXCHANGE_MTU_REQ => exchange(to),
         op::READ_BY_GROUP_TYPE_REQ => services(to, start, end),

@@ -55,7 +55,7 @@ pub extern "C" fn leaf_to_att(low: u64, high: u64, out: &mut [u8]) -> usize
 {
     let att = Uuid { low, high }.to_att();
     let bytes = att.bytes;
-    base::copy_in(out, 0, &bytes, 0, 16);
+    copies::copy_in(out, 0, &bytes, 0, 16);
     att.len
 }
 
@@ -90,6 +90,6 @@ pub extern "C" fn leaf_listed_body<'a>(
 {
     let body = listing::listed_body(data, response, Uuid { low, high });
     let n = body.len();
-    base::copy_in(out, 0, body, 0, n);
+    copies::copy_in(out, 0, body, 0, n);
     n
 }

@@ -34,7 +34,7 @@ fn same_uuid(read: Read, answer: &[u8]) -> bool {
             if answer.len() != UUID_LEN {
                 return false;
             }
-            (base::le64(answer, 0) == u.low) & (base::le64(answer, 8) == u.high)
+            (numbers::le64(answer, 0) == u.low) & (numbers::le64(answer, 8) == u.high)
         }
         Read::Nothing => answer.len() == 0,
     }
@@ -50,8 +50,8 @@ fn same_flag(is: bool, answer: &[u8]) -> bool {
 
 fn uuid_of(bytes: &[u8]) -> Uuid {
     Uuid {
-        low: base::le64(bytes, 0),
-        high: base::le64(bytes, 8),
+        low: numbers::le64(bytes, 0),
+        high: numbers::le64(bytes, 8),
     }
 }
 
@@ -103,10 +103,10 @@ fn name_row(input: &[u8], answer: &[u8]) -> bool {
 }
 
 fn params_row(input: &[u8], answer: &[u8]) -> bool {
-    let min = base::le16(input, 0);
-    let max = base::le16(input, 2);
-    let latency = base::le16(input, 4);
-    let timeout = base::le16(input, 6);
+    let min = numbers::le16(input, 0);
+    let max = numbers::le16(input, 2);
+    let latency = numbers::le16(input, 4);
+    let timeout = numbers::le16(input, 6);
     same_flag(params::params_good(min, max, latency, timeout), answer)
 }
 
@@ -136,7 +136,7 @@ pub fn read_row(s: &[u8], at: usize) -> Row {
         return Row::Cut;
     }
     let kind = s[at];
-    let n = base::le16(s, at + 1) as usize;
+    let n = numbers::le16(s, at + 1) as usize;
     if left - FRAME < n {
         return Row::Cut;
     }

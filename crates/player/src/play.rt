@@ -58,7 +58,7 @@ fn is_set(body: &[u8], at: usize) -> bool {
 }
 
 fn at_of(body: &[u8]) -> Micros {
-    Micros(base::le64(body, 0))
+    Micros(numbers::le64(body, 0))
 }
 
 // ---- the calls that only read
@@ -72,7 +72,7 @@ fn read(s: State, tag: u8, body: &[u8], store: &[u8], to: &mut [u8]) -> bool {
         record::TIMER_US => tell::timer(to, readers::timer_us(s, store)),
         record::CONNECTED_HANDLE => tell::handle(to, readers::connected_handle(s, store)),
         record::RESULT => {
-            let index = base::le32(body, 0);
+            let index = numbers::le32(body, 0);
             let given = readers::result(s, store, index);
             tell::given(to, index, given, store)
         }
@@ -96,7 +96,7 @@ fn push(s: State, body: &[u8], store: &mut [u8], out: &mut [u8]) -> Answer {
 }
 
 fn connect(s: State, body: &[u8], store: &mut [u8], out: &mut [u8]) -> Answer {
-    let handle = base::le16(body, HANDLE_AT);
+    let handle = numbers::le16(body, HANDLE_AT);
     events::on_connected(s, store, out, handle, at_of(body))
 }
 

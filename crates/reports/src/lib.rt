@@ -109,7 +109,7 @@ pub fn put_data(store: &mut [u8], i: usize, data: &[u8])
     ensures { λ _. ⌜ now (store .exit) ≡ againStore i (now («data» .entry)) (now (store .entry)) ⌝ }
 {
     let at = places::report_at(i);
-    base::copy_in(store, at, data, 0, data.len());
+    copies::copy_in(store, at, data, 0, data.len());
 }
 
 // The scan response of report i.
@@ -118,7 +118,7 @@ pub fn put_response(store: &mut [u8], i: usize, data: &[u8])
     ensures { λ _. ⌜ now (store .exit) ≡ responseStore i (now («data» .entry)) (now (store .entry)) ⌝ }
 {
     let at = places::response_at(i);
-    base::copy_in(store, at, data, 0, data.len());
+    copies::copy_in(store, at, data, 0, data.len());
 }
 
 // The block of the oldest report goes, the others move down by one.
@@ -126,7 +126,7 @@ pub fn drop_block(store: &mut [u8])
     ensures { λ _. ⌜ now (store .exit) ≡ lowered reportPart (now (store .entry)) ⌝ }
 {
     let second = places::report_at(1);
-    base::copy_within(
+    copies::copy_within(
         store,
         places::REPORTS_AT,
         second,

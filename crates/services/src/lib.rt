@@ -93,8 +93,8 @@ fn told_at(s: &[u8], a: usize, b: usize) -> Which
     requires { ⌜ (a + 4 ≤ b) × (b ≤ length (now s)) ⌝ }
     ensures { λ r. ⌜ r ≡ told (part a b (now (s .entry))) ⌝ }
 {
-    let start = base::le16(s, a);
-    let end = base::le16(s, a + END_AT);
+    let start = numbers::le16(s, a);
+    let end = numbers::le16(s, a + END_AT);
     match Uuid::from_att(&s[a + UUID_AT..b]) {
         uuid::Read::Is(uuid) => Which::At(Service { start, end, uuid }),
         uuid::Read::Nothing => Which::Nothing,
@@ -157,7 +157,7 @@ pub fn take_services(t: Services, s: &[u8], from: usize, end: usize, len: usize)
         }
         let v = a.table;
         u = v;
-        last = base::le16(s, at + END_AT);
+        last = numbers::le16(s, at + END_AT);
         at = next;
     }
     Found {

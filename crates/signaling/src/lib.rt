@@ -49,7 +49,7 @@ pub struct SmpAnswer {
 fn command(code: u8, id: u8, number: u16) -> [u8; 6]
     ensures { λ r. ⌜ r ≡ command code id (leBytes 2 number) ⌝ }
 {
-    [code, id, DATA, 0, wire::lo(number), wire::hi(number)]
+    [code, id, DATA, 0, halves::lo(number), halves::hi(number)]
 }
 
 fn silence() -> SignalingAnswer
@@ -77,10 +77,10 @@ fn rejection(id: u8) -> SignalingAnswer
 fn parameter_answer(id: u8, pdu: &[u8]) -> SignalingAnswer
     ensures { λ r. ⌜ r ≡ parameterRequest id (now (pdu .entry)) ⌝ }
 {
-    let min = base::le16(pdu, 4);
-    let max = base::le16(pdu, 6);
-    let latency = base::le16(pdu, 8);
-    let timeout = base::le16(pdu, 10);
+    let min = numbers::le16(pdu, 4);
+    let max = numbers::le16(pdu, 6);
+    let latency = numbers::le16(pdu, 8);
+    let timeout = numbers::le16(pdu, 10);
     if params::params_good(min, max, latency, timeout) {
         let bytes = command(code::PARAMETER_UPDATE_RSP, id, ACCEPTED);
         return SignalingAnswer {

@@ -36,7 +36,7 @@ fn frames(out: &[u8], bytes: usize) {
     }
     let mut at = 0;
     while pdu::HEADER <= bytes - at {
-        let n = base::le16(out, at) as usize;
+        let n = numbers::le16(out, at) as usize;
         if bytes - at - pdu::HEADER < n {
             return;
         }

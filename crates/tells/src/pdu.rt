@@ -21,7 +21,7 @@ fn byte(s: &[u8], at: usize) -> u8 {
 
 // Words and the number of two bytes.
 fn number(words: &[u8], s: &[u8], at: usize) {
-    say::told(words, base::le16(s, at) as u64, b"");
+    say::told(words, numbers::le16(s, at) as u64, b"");
 }
 
 fn range(words: &[u8], s: &[u8]) {
@@ -73,7 +73,7 @@ fn request(s: &[u8], opcode: u8) {
 }
 
 pub fn name(s: &[u8]) {
-    match base::le16(s, 2) {
+    match numbers::le16(s, 2) {
         wire::cid::ATT => request(s, byte(s, HEADER)),
         wire::cid::SIGNALING => say::text(b"a signaling command"),
         wire::cid::SMP => say::text(b"a security manager command"),

@@ -164,7 +164,7 @@ pub fn read_next(body: &mut [u8]) -> Next {
         return Next::Unread(Bad::Cut);
     }
     let tag = head[0];
-    let len = base::le32(&head, LENGTH_AT) as usize;
+    let len = numbers::le32(&head, LENGTH_AT) as usize;
     let shape = read_body(body, tag, len);
     match shape {
         Shape::Good => Next::Record(tag, len),

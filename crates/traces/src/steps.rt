@@ -53,7 +53,7 @@ const LEN_AT: usize = 36;
 // ---- the shape
 
 pub fn count_of(body: &[u8]) -> usize {
-    base::le32(body, COUNT_AT) as usize
+    numbers::le32(body, COUNT_AT) as usize
 }
 
 // No more records stand there than a batch may have.
@@ -147,8 +147,8 @@ pub fn address(s: &[u8], at: usize, random: bool) -> Address {
     }
     let a = &s[at..];
     Address {
-        low: base::le32(a, 0),
-        high: base::le16(a, 4),
+        low: numbers::le32(a, 0),
+        high: numbers::le16(a, 4),
         random,
     }
 }
@@ -165,22 +165,22 @@ fn connect(r: &[u8]) -> Step {
     let target = target(r);
     Step::Connect {
         target,
-        interval: base::le16(r, INTERVAL_AT),
-        latency: base::le16(r, LATENCY_AT),
-        timeout: base::le16(r, TIMEOUT_AT),
-        within_ms: Millis(base::le32(r, MS_AT)),
+        interval: numbers::le16(r, INTERVAL_AT),
+        latency: numbers::le16(r, LATENCY_AT),
+        timeout: numbers::le16(r, TIMEOUT_AT),
+        within_ms: Millis(numbers::le32(r, MS_AT)),
     }
 }
 
 fn step_of(r: &[u8]) -> Step {
-    let ms = Millis(base::le32(r, MS_AT));
+    let ms = Millis(numbers::le32(r, MS_AT));
     let uuid = Uuid::from_128(r, UUID_AT);
     let set = record::byte(r, FLAG_AT) == 1;
     match record::byte(r, 0) {
         kinds::SCAN => Step::Scan { ms },
         kinds::CONNECT => connect(r),
         kinds::EXCHANGE_MTU => Step::ExchangeMtu {
-            mtu: base::le16(r, MTU_AT),
+            mtu: numbers::le16(r, MTU_AT),
         },
         kinds::DISCOVER_SERVICES => Step::DiscoverServices,
         kinds::DISCOVER_CHARACTERISTICS => Step::DiscoverCharacteristics { service: uuid },
@@ -211,8 +211,8 @@ fn placed_at(body: &[u8], at: usize) -> Placed {
     let step = step_of(r);
     Placed {
         step,
-        place: base::le32(r, PLACE_AT) as usize,
-        len: base::le32(r, LEN_AT) as usize,
+        place: numbers::le32(r, PLACE_AT) as usize,
+        len: numbers::le32(r, LEN_AT) as usize,
     }
 }
 

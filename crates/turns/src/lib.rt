@@ -66,10 +66,10 @@ fn keep_value(store: &mut [u8], count: usize, from: usize, n: usize)
 {
     if count < places::MAX_RESULTS {
         let at = places::result_at(count);
-        base::copy_within(store, at, from, n);
+        copies::copy_within(store, at, from, n);
     } else {
-        base::copy_within(store, places::result_at(0), places::result_at(1), 15_498);
-        base::copy_within(store, places::result_at(63), from, n);
+        copies::copy_within(store, places::result_at(0), places::result_at(1), 15_498);
+        copies::copy_within(store, places::result_at(63), from, n);
     }
 }
 

@@ -67,8 +67,8 @@ impl Uuid {
         if LONG_LEN <= s.len() {
             if at <= s.len() - LONG_LEN {
                 return Self {
-                    low: base::le64(s, at),
-                    high: base::le64(s, at + HALF_LEN),
+                    low: numbers::le64(s, at),
+                    high: numbers::le64(s, at + HALF_LEN),
                 };
             }
         }
@@ -89,7 +89,7 @@ impl Uuid {
         ensures { λ r. ⌜ r ≡ attUuid (now (bytes .entry)) ⌝ }
     {
         if bytes.len() == SHORT_LEN {
-            return Read::Is(Uuid::from_u16(base::le16(bytes, 0)));
+            return Read::Is(Uuid::from_u16(numbers::le16(bytes, 0)));
         }
         if bytes.len() == LONG_LEN {
             return Read::Is(Uuid::from_128(bytes, 0));

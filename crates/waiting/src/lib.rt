@@ -80,7 +80,7 @@ pub fn push_one(s: State, store: &mut [u8], values: &[u8], p: Placed) -> State
         let n = value_len(p);
         let at = places::waiting_at(count);
         let step = p.step;
-        base::copy_in(store, at, values, p.place, n);
+        copies::copy_in(store, at, values, p.place, n);
         let len = n as u8;
         return state::parts::with_queue(s, join(queue, Queued { step, len }));
     }
@@ -165,7 +165,7 @@ pub fn take_step(s: State, store: &mut [u8]) -> State
     let kept = queue.kept;
     let first = kept[0];
     let size = places::MAX_VALUE * queue.count;
-    base::copy_within(store, places::RUNNING_AT, places::WAITING_AT, size);
+    copies::copy_within(store, places::RUNNING_AT, places::WAITING_AT, size);
     let running = begin(first, counters.next_index);
     let a = state::parts::with_queue(s, rest(queue));
     let b = state::parts::with_counters(a, count_one(counters));

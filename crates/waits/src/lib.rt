@@ -101,12 +101,12 @@ pub fn keep_value(store: &mut [u8], count: usize, from: usize, len: usize)
 {
     if count < MAX_NOTIFICATIONS {
         let place = places::notification_at(count);
-        base::copy_within(store, place, from, len);
+        copies::copy_within(store, place, from, len);
     } else {
         let second = places::notification_at(1);
         let last = places::notification_at(LAST);
-        base::copy_within(store, NOTIFICATIONS_AT, second, MAX_VALUE * LAST);
-        base::copy_within(store, last, from, len);
+        copies::copy_within(store, NOTIFICATIONS_AT, second, MAX_VALUE * LAST);
+        copies::copy_within(store, last, from, len);
     }
 }
 
@@ -147,7 +147,7 @@ fn join_one(x: Notification, i: usize, n: usize, handle: u16, store: &[u8], buf:
     if x.handle == handle {
         let len = length_of(x);
         let place = places::notification_at(i);
-        base::copy_in(buf, n, store, place, len);
+        copies::copy_in(buf, n, store, place, len);
         return n + len;
     }
     n

@@ -2,7 +2,7 @@
 ghost use mathlib.Core.Path.{_≡_};
 ghost use mathlib.Core.Bool.{_&&_};
 ghost use mathlib.Core.List.{_∷_, _++_};
-ghost use Prim.Native.Nat.{_+_, _/_, _%_, _≤_};
+ghost use Prim.Native.Nat.{_+_, _≤_};
 ghost use lib.ListN.{length, take, drop};
 ghost use lib.Dec.{leb};
 ghost use Rattle.base.specs.Bytes.{leBytes};
@@ -21,24 +21,15 @@ const LONGEST: usize = 65_535;
 // Bytes of an ATT PDU before its value: an opcode and a handle.
 const ATT_HEAD: usize = 3;
 
-// The less significant byte of a number.
-pub fn lo(v: u16) -> u8
-    ensures { λ r. ⌜ r ≡ v % 256 ⌝ }
-{
-    (v % 256) as u8
-}
-
-// The more significant byte of a number.
-pub fn hi(v: u16) -> u8
-    ensures { λ r. ⌜ r ≡ v / 256 % 256 ⌝ }
-{
-    (v / 256) as u8
-}
-
 fn header(n: u16, channel: u16) -> [u8; 4]
     ensures { λ r. ⌜ r ≡ leBytes 2 n ++ leBytes 2 channel ⌝ }
 {
-    [lo(n), hi(n), lo(channel), hi(channel)]
+    [
+        halves::lo(n),
+        halves::hi(n),
+        halves::lo(channel),
+        halves::hi(channel),
+    ]
 }
 
 // Whether an output of len bytes can take the frame of n bytes of payload, from at on.
@@ -65,9 +56,9 @@ fn put(out: &mut [u8], at: usize, head: &[u8], value: &[u8], from: usize, n: usi
     ensures { λ r. ⌜ r ≡ length (now (head .entry)) + n ⌝ }
 {
     let k = head.len();
-    base::copy_in(out, at, head, 0, k);
+    copies::copy_in(out, at, head, 0, k);
     let body = at + k;
-    base::copy_in(out, body, value, from, n);
+    copies::copy_in(out, body, value, from, n);
     k + n
 }
 
@@ -89,13 +80,13 @@ fn att_head(n: u16, opcode: u8, handle: u16) -> [u8; 7]
     ensures { λ r. ⌜ r ≡ (leBytes 2 n ++ leBytes 2 cidAtt) ++ (opcode ∷ leBytes 2 handle) ⌝ }
 {
     [
-        lo(n),
-        hi(n),
-        lo(cid::ATT),
-        hi(cid::ATT),
+        halves::lo(n),
+        halves::hi(n),
+        halves::lo(cid::ATT),
+        halves::hi(cid::ATT),
         opcode,
-        lo(handle),
-        hi(handle),
+        halves::lo(handle),
+        halves::hi(handle),
     ]
 }
 

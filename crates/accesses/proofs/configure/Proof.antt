@@ -10,8 +10,8 @@ use Rattle.accesses.proofs.configure.Statement.{statement}
 use Rattle.accesses.proofs.configure.Tie as tie
 use Rattle.accesses.proofs.configure.Reads as reads
 use Rattle.accesses.proofs.configure.Lts as lts
-use Rattle.wire.proofs.hi.Reads as hi-reads
-use Rattle.wire.proofs.lo.Reads as lo-reads
+use Rattle.halves.proofs.hi.Reads as hi-reads
+use Rattle.halves.proofs.lo.Reads as lo-reads
 
 -- src/lib.rt:343:13
 lo-requires : tie.Need-lo-requires

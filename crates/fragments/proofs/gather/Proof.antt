@@ -5,7 +5,7 @@ use Rattle.fragments.proofs.gather.Statement.{statement}
 use Rattle.fragments.proofs.gather.Tie as tie
 use Rattle.fragments.proofs.gather.Reads as reads
 use Rattle.fragments.proofs.gather.Lts as lts
-use Rattle.base.proofs.copy_in.Reads as copy-in-reads
+use Rattle.copies.proofs.copy_in.Reads as copy-in-reads
 use Rattle.fragments.proofs.held_before.Reads as held-before-reads
 use Rattle.fragments.proofs.with_held.Reads as with-held-reads
 use Rattle.state.proofs.parts.bearer_of.Reads as bearer-of-reads

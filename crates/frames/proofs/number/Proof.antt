@@ -8,7 +8,7 @@ use Rattle.frames.proofs.number.Statement.{statement}
 use Rattle.frames.proofs.number.Tie as tie
 use Rattle.frames.proofs.number.Reads as reads
 use Rattle.frames.proofs.number.Lts as lts
-use Rattle.base.proofs.le16.Reads as le16-reads
+use Rattle.numbers.proofs.le16.Reads as le16-reads
 
 -- src/lib.rt:36:15
 add-end : tie.Need-add-end

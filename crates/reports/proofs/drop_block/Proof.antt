@@ -5,7 +5,7 @@ use Rattle.reports.proofs.drop_block.Statement.{statement}
 use Rattle.reports.proofs.drop_block.Tie as tie
 use Rattle.reports.proofs.drop_block.Reads as reads
 use Rattle.reports.proofs.drop_block.Lts as lts
-use Rattle.base.proofs.copy_within.Reads as copy-within-reads
+use Rattle.copies.proofs.copy_within.Reads as copy-within-reads
 use Rattle.places.proofs.report_at.Reads as report-at-reads
 
 -- src/lib.rt:128:9

@@ -4,7 +4,7 @@ use Rattle.reports.proofs.put_data.Statement.{statement}
 use Rattle.reports.proofs.put_data.Tie as tie
 use Rattle.reports.proofs.put_data.Reads as reads
 use Rattle.reports.proofs.put_data.Lts as lts
-use Rattle.base.proofs.copy_in.Reads as copy-in-reads
+use Rattle.copies.proofs.copy_in.Reads as copy-in-reads
 use Rattle.places.proofs.report_at.Reads as report-at-reads
 
 -- src/lib.rt:111:9

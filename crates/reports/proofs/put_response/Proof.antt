@@ -4,7 +4,7 @@ use Rattle.reports.proofs.put_response.Statement.{statement}
 use Rattle.reports.proofs.put_response.Tie as tie
 use Rattle.reports.proofs.put_response.Reads as reads
 use Rattle.reports.proofs.put_response.Lts as lts
-use Rattle.base.proofs.copy_in.Reads as copy-in-reads
+use Rattle.copies.proofs.copy_in.Reads as copy-in-reads
 use Rattle.places.proofs.response_at.Reads as response-at-reads
 
 -- src/lib.rt:120:9

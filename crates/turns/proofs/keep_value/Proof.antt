@@ -4,7 +4,7 @@ use Rattle.turns.proofs.keep_value.Statement.{statement}
 use Rattle.turns.proofs.keep_value.Tie as tie
 use Rattle.turns.proofs.keep_value.Reads as reads
 use Rattle.turns.proofs.keep_value.Lts as lts
-use Rattle.base.proofs.copy_within.Reads as copy-within-reads
+use Rattle.copies.proofs.copy_within.Reads as copy-within-reads
 use Rattle.places.proofs.result_at.Reads as result-at-reads
 
 -- src/lib.rt:64:13

@@ -7,7 +7,7 @@ use Rattle.waiting.proofs.push_one.Statement.{statement}
 use Rattle.waiting.proofs.push_one.Tie as tie
 use Rattle.waiting.proofs.push_one.Reads as reads
 use Rattle.waiting.proofs.push_one.Lts as lts
-use Rattle.base.proofs.copy_in.Reads as copy-in-reads
+use Rattle.copies.proofs.copy_in.Reads as copy-in-reads
 use Rattle.places.proofs.waiting_at.Reads as waiting-at-reads
 use Rattle.state.proofs.parts.counters_of.Reads as counters-of-reads
 use Rattle.state.proofs.parts.queue_of.Reads as queue-of-reads

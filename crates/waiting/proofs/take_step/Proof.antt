@@ -8,7 +8,7 @@ use Rattle.waiting.proofs.take_step.Statement.{statement}
 use Rattle.waiting.proofs.take_step.Tie as tie
 use Rattle.waiting.proofs.take_step.Reads as reads
 use Rattle.waiting.proofs.take_step.Lts as lts
-use Rattle.base.proofs.copy_within.Reads as copy-within-reads
+use Rattle.copies.proofs.copy_within.Reads as copy-within-reads
 use Rattle.state.proofs.parts.counters_of.Reads as counters-of-reads
 use Rattle.state.proofs.parts.keys_of.Reads as keys-of-reads
 use Rattle.state.proofs.parts.queue_of.Reads as queue-of-reads
