@@ -1,5 +1,3 @@
-// The lines of a trace player (docs/TRACE.md, 'Lines'): what a call answered and a whole state, in words.
-pub mod dump;
+// The lines of a trace player (docs/TRACE.md, 'Lines'), word by word; the kinds of steps.
 pub mod kinds;
 pub mod line;
-pub mod rows;

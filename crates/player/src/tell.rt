@@ -1,7 +1,5 @@
 // The line of each record (docs/TRACE.md, 'Lines'); whether it could be written.
-use lines::dump;
 use lines::line;
-use lines::rows;
 use matching::AdvAction;
 use readers::Given;
 use readers::Handle;
@@ -43,7 +41,7 @@ pub fn given(to: &mut [u8], index: u32, g: Given, store: &[u8]) -> bool {
 
 pub fn dumped(to: &mut [u8], s: State, store: &[u8]) -> bool {
     let n = line::text(to, 0, b"dump");
-    let m = dump::tell_state(s, to, n, store);
+    let m = dumps::tell_state(s, to, n, store);
     line::end(to, m)
 }
 

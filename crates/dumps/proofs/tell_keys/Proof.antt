@@ -3,12 +3,12 @@ use native.Mathlib.Omega.{arith}
 use lib.ListN.{length}
 use mathlib.Core.Path.{_≡_}
 use Prim.Native.Nat.{_≤_, _-_}
-use Rattle.lines.proofs.dump.tell_keys.Statement.{statement}
-use Rattle.lines.proofs.dump.tell_keys.Tie as tie
-use Rattle.lines.proofs.dump.tell_keys.Reads as reads
-use Rattle.lines.proofs.dump.tell_keys.Lts as lts
+use Rattle.dumps.proofs.tell_keys.Statement.{statement}
+use Rattle.dumps.proofs.tell_keys.Tie as tie
+use Rattle.dumps.proofs.tell_keys.Reads as reads
+use Rattle.dumps.proofs.tell_keys.Lts as lts
 use Rattle.lines.proofs.line.key.Reads as key-reads
 use Rattle.lines.proofs.line.number.Reads as number-reads
 
 abbrev Inv-loop : tie.InvT-loop
 Inv-loop count to₀ at kept n₀ i₀ to n i = (length kept ≡ 128) × (length to ≡ length to₀)

@@ -3,18 +3,18 @@ use native.Mathlib.Omega.{arith}
 use lib.ListN.{length}
 use mathlib.Core.Path.{_≡_}
 use Prim.Native.Nat.{_≤_, _-_}
-use Rattle.lines.proofs.dump.tell_characteristics.Statement.{statement}
-use Rattle.lines.proofs.dump.tell_characteristics.Tie as tie
-use Rattle.lines.proofs.dump.tell_characteristics.Reads as reads
-use Rattle.lines.proofs.dump.tell_characteristics.Lts as lts
+use Rattle.dumps.proofs.tell_services.Statement.{statement}
+use Rattle.dumps.proofs.tell_services.Tie as tie
+use Rattle.dumps.proofs.tell_services.Reads as reads
+use Rattle.dumps.proofs.tell_services.Lts as lts
 use Rattle.lines.proofs.line.named.Reads as named-reads
-use Rattle.lines.proofs.rows.characteristic.Reads as characteristic-reads
+use Rattle.rows.proofs.service.Reads as service-reads
 
 abbrev Inv-loop : tie.InvT-loop
-Inv-loop count to₀ at kept n₀ i₀ to n i = (length kept ≡ 64) × (length to ≡ length to₀)
+Inv-loop count to₀ at kept n₀ i₀ to n i = (length kept ≡ 32) × (length to ≡ length to₀)
 
 abbrev μ-loop : tie.MeasureT-loop
-μ-loop count to₀ at kept n₀ i₀ to n i = 64 - i
+μ-loop count to₀ at kept n₀ i₀ to n i = 32 - i
 
 slice-aggregate-named : tie.Need-slice-aggregate-named Inv-loop μ-loop
 slice-aggregate-named c = search needs
@@ -31,8 +31,8 @@ mul-x c = search needs
 array-copy-out-x : tie.Need-array-copy-out-x Inv-loop μ-loop
 array-copy-out-x c = search needs
 
-characteristic-requires : tie.Need-characteristic-requires Inv-loop μ-loop
-characteristic-requires c κs = search needs
+service-requires : tie.Need-service-requires Inv-loop μ-loop
+service-requires c κs = search needs
 
 add-i : tie.Need-add-i Inv-loop μ-loop
 add-i c = search needs
@@ -55,8 +55,8 @@ same-length-2 c = search needs
 returns-2 : tie.Need-returns-2 Inv-loop μ-loop
 returns-2 c = search needs
 
-pub tell-characteristics-spec : {M : Type 1} → statement M
-tell-characteristics-spec =
+pub tell-services-spec : {M : Type 1} → statement M
+tell-services-spec =
     tie.close
     (tie.spec
     Inv-loop
@@ -66,7 +66,7 @@ tell-characteristics-spec =
     loop-holds
     mul-x
     array-copy-out-x
-    characteristic-requires
+    service-requires
     add-i
     loop-less
     loop-again

@@ -3,19 +3,18 @@ use native.Mathlib.Omega.{arith}
 use lib.ListN.{length}
 use mathlib.Core.Path.{_≡_}
 use Prim.Native.Nat.{_≤_, _-_}
-use Rattle.lines.proofs.dump.tell_notifications.Statement.{statement}
-use Rattle.lines.proofs.dump.tell_notifications.Tie as tie
-use Rattle.lines.proofs.dump.tell_notifications.Reads as reads
-use Rattle.lines.proofs.dump.tell_notifications.Lts as lts
+use Rattle.dumps.proofs.tell_characteristics.Statement.{statement}
+use Rattle.dumps.proofs.tell_characteristics.Tie as tie
+use Rattle.dumps.proofs.tell_characteristics.Reads as reads
+use Rattle.dumps.proofs.tell_characteristics.Lts as lts
 use Rattle.lines.proofs.line.named.Reads as named-reads
-use Rattle.lines.proofs.rows.notification.Reads as notification-reads
-use Rattle.places.proofs.notification_at.Reads as notification-at-reads
+use Rattle.rows.proofs.characteristic.Reads as characteristic-reads
 
 abbrev Inv-loop : tie.InvT-loop
-Inv-loop count to₀ at store kept n₀ i₀ to n i = (length kept ≡ 32) × (length to ≡ length to₀)
+Inv-loop count to₀ at kept n₀ i₀ to n i = (length kept ≡ 64) × (length to ≡ length to₀)
 
 abbrev μ-loop : tie.MeasureT-loop
-μ-loop count to₀ at store kept n₀ i₀ to n i = 32 - i
+μ-loop count to₀ at kept n₀ i₀ to n i = 64 - i
 
 slice-aggregate-named : tie.Need-slice-aggregate-named Inv-loop μ-loop
 slice-aggregate-named c = search needs
@@ -32,11 +31,8 @@ mul-x c = search needs
 array-copy-out-x : tie.Need-array-copy-out-x Inv-loop μ-loop
 array-copy-out-x c = search needs
 
-notification-at-requires : tie.Need-notification-at-requires Inv-loop μ-loop
-notification-at-requires c κs = search needs
-
-notification-requires : tie.Need-notification-requires Inv-loop μ-loop
-notification-requires c κs = search needs
+characteristic-requires : tie.Need-characteristic-requires Inv-loop μ-loop
+characteristic-requires c κs = search needs
 
 add-i : tie.Need-add-i Inv-loop μ-loop
 add-i c = search needs
@@ -59,8 +55,8 @@ same-length-2 c = search needs
 returns-2 : tie.Need-returns-2 Inv-loop μ-loop
 returns-2 c = search needs
 
-pub tell-notifications-spec : {M : Type 1} → statement M
-tell-notifications-spec =
+pub tell-characteristics-spec : {M : Type 1} → statement M
+tell-characteristics-spec =
     tie.close
     (tie.spec
     Inv-loop
@@ -70,8 +66,7 @@ tell-notifications-spec =
     loop-holds
     mul-x
     array-copy-out-x
-    notification-at-requires
-    notification-requires
+    characteristic-requires
     add-i
     loop-less
     loop-again

@@ -3,12 +3,12 @@ use native.Mathlib.Omega.{arith}
 use lib.ListN.{length}
 use mathlib.Core.Path.{_≡_}
 use Prim.Native.Nat.{_≤_, _-_}
-use Rattle.lines.proofs.dump.tell_results.Statement.{statement}
-use Rattle.lines.proofs.dump.tell_results.Tie as tie
-use Rattle.lines.proofs.dump.tell_results.Reads as reads
-use Rattle.lines.proofs.dump.tell_results.Lts as lts
+use Rattle.dumps.proofs.tell_results.Statement.{statement}
+use Rattle.dumps.proofs.tell_results.Tie as tie
+use Rattle.dumps.proofs.tell_results.Reads as reads
+use Rattle.dumps.proofs.tell_results.Lts as lts
 use Rattle.lines.proofs.line.named.Reads as named-reads
-use Rattle.lines.proofs.rows.kept.Reads as kept-reads
+use Rattle.rows.proofs.kept.Reads as kept-reads
 use Rattle.places.proofs.result_at.Reads as result-at-reads
 
 abbrev Inv-loop : tie.InvT-loop

@@ -3,13 +3,13 @@ use native.Mathlib.Omega.{arith}
 use lib.ListN.{length}
 use mathlib.Core.Path.{_≡_}
 use Prim.Native.Nat.{_≤_, _-_}
-use Rattle.lines.proofs.dump.tell_reports.Statement.{statement}
-use Rattle.lines.proofs.dump.tell_reports.Tie as tie
-use Rattle.lines.proofs.dump.tell_reports.Reads as reads
-use Rattle.lines.proofs.dump.tell_reports.Lts as lts
-use Rattle.lines.proofs.dump.report_of.Reads as report-of-reads
+use Rattle.dumps.proofs.tell_reports.Statement.{statement}
+use Rattle.dumps.proofs.tell_reports.Tie as tie
+use Rattle.dumps.proofs.tell_reports.Reads as reads
+use Rattle.dumps.proofs.tell_reports.Lts as lts
+use Rattle.dumps.proofs.report_of.Reads as report-of-reads
 use Rattle.lines.proofs.line.named.Reads as named-reads
-use Rattle.lines.proofs.rows.report.Reads as report-reads
+use Rattle.rows.proofs.report.Reads as report-reads
 use Rattle.places.proofs.report_at.Reads as report-at-reads
 use Rattle.places.proofs.response_at.Reads as response-at-reads
 

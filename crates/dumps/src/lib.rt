@@ -1,9 +1,8 @@
 // The whole state in words (docs/TRACE.md, 'Lines'), each part with its word before it.
 ghost use Prim.Native.Nat.{_<_};
-use crate::line;
-use crate::rows;
-use crate::rows::Advertiser;
 use characteristics::Characteristic;
+use lines::line;
+use rows::Advertiser;
 use services::Service;
 use state::Bearer;
 use state::Counters;
