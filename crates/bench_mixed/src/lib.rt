@@ -82,7 +82,7 @@ pub extern "C" fn once_on_advertising(store: &mut [u8], data: &[u8]) -> u8 {
 
 #[no_mangle]
 pub extern "C" fn once_on_scan_response(store: &mut [u8], data: &[u8]) -> u8 {
-    radio::on_scan_response(connecting(), store, NOW, hear::address(0), data).refusal
+    scan_responses::on_scan_response(connecting(), store, NOW, hear::address(0), data).refusal
 }
 
 #[no_mangle]

@@ -23,7 +23,7 @@ pub fn rounds(n: u32, store: &mut [u8], out: &mut [u8], data: &[u8]) -> u64 {
             false,
         );
         let heard = a.state;
-        let b = radio::on_scan_response(heard, store, at, hear::address(who), data);
+        let b = scan_responses::on_scan_response(heard, store, at, hear::address(who), data);
         let answered = b.state;
         let c = events::on_timer(answered, store, out, at);
         t = c.state;

@@ -87,7 +87,7 @@ fn advertised(s: State, store: &mut [u8], now: Micros, who: Address, data: &[u8]
 }
 
 fn responded(s: State, store: &mut [u8], now: Micros, data: &[u8]) -> Answer {
-    let a = radio::on_scan_response(s, store, now, HEAD, data);
+    let a = scan_responses::on_scan_response(s, store, now, HEAD, data);
     let state = a.state;
     quiet(state, a.refusal)
 }

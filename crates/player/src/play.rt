@@ -110,7 +110,7 @@ fn respond(s: State, body: &[u8], store: &mut [u8]) -> Answer {
     let random = is_set(body, record::RESPONSE_RANDOM_AT);
     let address = steps::address(body, RESPONSE_ADDRESS_AT, random);
     let heard = after(body, RESPONSE_DATA_AT);
-    let a = radio::on_scan_response(s, store, at_of(body), address, heard);
+    let a = scan_responses::on_scan_response(s, store, at_of(body), address, heard);
     let state = a.state;
     quiet(state, a.refusal)
 }

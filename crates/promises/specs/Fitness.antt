@@ -30,8 +30,8 @@ use Rattle.batch.specs.Batch.{gateBatch, batchFits, countersFit}
 use Rattle.lasting.specs.Lasting.{Lasting, narrowBatch}
 use Rattle.lasting.proofs.FitGoesToFit.{fresh-lasts, push-steps-lasts, on-timer-lasts, on-connected-lasts, on-disconnected-lasts}
 use Rattle.lasting_link.proofs.FragmentLasts.{on-fragment-lasts}
-use Rattle.radio.specs.Radio as radio
-use Rattle.radio.specs.Keeps as radio-keeps
+use Rattle.hearing.specs.Hearing as radio
+use Rattle.hearing.specs.Keeps as radio-keeps
 use Rattle.fragments.specs.Fragment.{gateFragment, heldFits}
 use Rattle.trails.specs.Calls.{Call, batch, timer, connected, disconnected, advertising, scanResponse, fragment, reads, does, left, run, gateOf, done?}
 use Rattle.trails.specs.Trail.{begins, goes, final}

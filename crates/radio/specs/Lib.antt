@@ -1,3 +1,2 @@
 pub mod Radio
 pub mod RadioLaws
-pub mod Keeps

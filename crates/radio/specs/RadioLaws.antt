@@ -1,4 +1,4 @@
--- What each return of the radio calls asks, over plain variables.
+-- What each return of an advertisement asks, over plain variables; and that its contract leaves no second outcome.
 use Prim.Native.Nat.{ℕ, _+_, _≤_, _<_, min}
 use mathlib.Core.Path.{_≡_, refl, sym, ap, _∙_}
 use mathlib.Core.Bool.{Bool, true, false, not, _&&_, _||_, true≢false}
@@ -16,14 +16,12 @@ use Rattle.queues.specs.Blocks.{lowered}
 use Rattle.queues.specs.BlockLaws.{length-lowered}
 use Rattle.time.specs.declared.Micros.{Micros}
 use Rattle.time.specs.Clock.{tooLate}
-use Rattle.state.specs.Central.{Central, central, withReports, withKeys}
-use Rattle.state.specs.declared.Address.{Address}
+use Rattle.state.specs.Central.{Central, central, laid, withReports, withKeys}
 use Rattle.state.specs.declared.Reports.{Reports}
 use Rattle.state.specs.declared.Running.{Running}
 use Rattle.state.specs.declared.State.{State}
 use Rattle.fit.specs.Fit.{fits}
 use Rattle.fit.specs.Gate.{firstRefusal, gateQuiet}
-use Rattle.fit.specs.GateLaws.{PassedQuiet, passed-quiet}
 use Rattle.reports.specs.Key.{key, seek, among}
 use Rattle.reports.specs.Reports.{reportPart, noResponse, asked, advertisers, placeOf, Line, heardAgain, againStore, heardFirst, firstStore, responded, responseStore, responseBytes, askedToo}
 use Rattle.reports.specs.ReportLaws.{Whole, Down, added, renewed, first-room, first-full, store-room, store-full}
@@ -31,26 +29,10 @@ use Rattle.matching.specs.Matching.{scanStep, connectStep, scannable, listens, 
 use Rattle.matching.specs.declared.AdvAction.{AdvAction}
 use Rattle.matching.specs.declared.AdvAction.the-variants as action
 use Rattle.radio.specs.declared.Advertised.{Advertised}
-use Rattle.radio.specs.Radio.{Outcome, outcome, unchanged, thenData, Adv, line, due, refusal, acted, heard, advertised, responseRefusal, scanResponded}
+use Rattle.hearing.specs.Hearing.{Outcome, unchanged, thenData, Adv, line, noKey, due, refusal, acted, heard, advertised}
+use Rattle.radio.specs.Radio.{outcome}
 
 -- ---- refusals
-
--- what a call with data has shown when it goes on
-pub record Passed (c : Central) (store : ℕ) (at : Micros) (n : ℕ) : Type 0 where
-  pub gate : PassedQuiet c store at
-  pub short : n ≤ dataSize
-
-pub passed : (c : Central) (store : ℕ) (at : Micros) (n : ℕ) → thenData (gateQuiet c store at) n ≡ 0 → Passed c store at n
-unfolding thenData
-passed c store at n e = go (eqb g 0) refl (leb n dataSize) refl e
-  where
-    g : ℕ
-    g = gateQuiet c store at
-
-    go : (x : Bool) → eqb (gateQuiet c store at) 0 ≡ x → (y : Bool) → leb n dataSize ≡ y → _≡_ {A = ℕ} (pick x (pick y 0 6) (gateQuiet c store at)) 0 → Passed c store at n
-    go true ex true ey h = record { gate = passed-quiet c store at (eqb-true (gateQuiet c store at) 0 ex); short = leb-true n dataSize ey }
-    go true ex false ey h = absurd (omega arith)
-    go false ex y ey h = absurd (eqb-false (gateQuiet c store at) 0 ex h)
 
 pub unfit-refusal : (c : Central) (store : ℕ) (v : Adv) → fits c ≡ false → 1 ≡ refusal c store v
 unfolding refusal thenData firstRefusal
@@ -211,33 +193,11 @@ lowered-length s s' e h = ap length e ∙ length-lowered reportPart s ∙ h
 pub told : (s : State) (r : Advertised) (n : ℕ) (st : List ℕ) (x : Outcome) → r ≡ record { state = s; refusal = n; action = action.Nothing } → unchanged (central s) st n ≡ x → outcome r st ≡ x
 told s r n st x e f = ap (λ (y : Advertised). outcome y st) e ∙ f
 
--- ---- a scan response
+-- ---- the contract leaves no second outcome
 
-module _ (c : Central) (s : List ℕ) (at : Micros) (a : Address) (d : List ℕ) (g why : ℕ) (gate : g ≡ gateQuiet c (length s) at) (then : why ≡ thenData g (length d)) where
-  refusal-is : why ≡ responseRefusal c (length s) at (length d)
-  refusal-is = then ∙ ap (λ (k : ℕ). thenData k (length d)) gate
+advertisedOf : Outcome → Advertised
+advertisedOf x = record { state = laid (x .state); refusal = x .refusal; action = x .action }
 
-  pub response-refused : (why ≡ 0 → ⊥) → unchanged c s why ≡ scanResponded c s at a d
-  unfolding scanResponded
-  response-refused n = rw (← refusal-is, ne-eqb why 0 n)
-
-  module _ (z : why ≡ 0) where
-    pub response-passed : Passed c (length s) at (length d)
-    response-passed = passed c (length s) at (length d) (sym refusal-is ∙ z)
-
-    module _ (r : Reports) (who i : ℕ) (part : r ≡ c .reports) (keyed : who ≡ key a) (sought : i ≡ seek who (advertisers r)) where
-      response-place : i ≡ placeOf (c .reports) (key a)
-      response-place = sought ∙ rw (part, keyed)
-
-      pub response-none : r .count ≤ i → unchanged c s 0 ≡ scanResponded c s at a d
-      unfolding scanResponded
-      response-none h =
-          let m : c .reports .count ≤ i = rw part at h in
-          rw (← refusal-is, eq-eqb why 0 z, ← response-place, le-ltb i (c .reports .count) m)
-
-      pub response-taken : (x : Central) (s' : List ℕ) (len : ℕ) → i < r .count → x ≡ withReports c (responded r i (at .0) len) → len ≡ length d → s' ≡ responseStore i d s
-          → record { state = x; refusal = 0; action = action.Nothing; store = s' } ≡ scanResponded c s at a d
-      unfolding scanResponded
-      response-taken x s' len h e l t =
-          let m : i < c .reports .count = rw part at h in
-          rw (← refusal-is, eq-eqb why 0 z, ← response-place, lt-ltb i (c .reports .count) m, e, part, l, t)
+pub one-advertised : (a b : Advertised) (s t : List ℕ) (x : Outcome) → outcome a s ≡ x → outcome b t ≡ x → (a ≡ b) × (s ≡ t)
+unfolding advertisedOf
+one-advertised a b s t x e f = (ap advertisedOf (e ∙ sym f), ap (λ (y : Outcome). y .store) (e ∙ sym f))

@@ -1,13 +1,11 @@
-// Advertisements and scan responses: state by value, report bytes in the lent store.
+// Advertisements: state by value, report bytes in the lent store.
 ghost use mathlib.Core.Path.{_≡_};
-ghost use Prim.Native.Nat.{_≤_};
-ghost use Rattle.places.specs.Sizes.{dataSize};
 ghost use Rattle.state.specs.Central.{central};
-ghost use Rattle.radio.specs.Radio.{outcome, taken, thenData, adv, advertised, scanResponded};
+ghost use Rattle.hearing.specs.Hearing.{adv, advertised};
+ghost use Rattle.radio.specs.Radio.{outcome};
 use fit::refusal;
 use matching::AdvAction;
 use state::Address;
-use state::Reports;
 use state::State;
 use time::Micros;
 
@@ -18,33 +16,7 @@ pub struct Advertised {
     pub action: AdvAction,
 }
 
-// What a scan response leaves.
-pub struct Responded {
-    pub state: State,
-    pub refusal: u8,
-}
-
 const LAST: usize = places::MAX_REPORTS - 1;
-
-// After refusals 1 to 3: the data's.
-fn then_data(why: u8, len: usize) -> u8
-    ensures { λ r. ⌜ r ≡ thenData why len ⌝ }
-{
-    if why != refusal::ACCEPTED {
-        return why;
-    }
-    if places::MAX_DATA < len {
-        return refusal::LONG_DATA;
-    }
-    refusal::ACCEPTED
-}
-
-fn narrow(n: usize) -> u8
-    requires { ⌜ n ≤ dataSize ⌝ }
-    ensures { λ r. ⌜ r ≡ n ⌝ }
-{
-    n as u8
-}
 
 fn unchanged(state: State, refusal: u8) -> Advertised
     ensures { λ r. ⌜ r ≡ record { state = state; refusal = refusal; action = AdvAction.Nothing } ⌝ }
@@ -115,7 +87,7 @@ pub fn on_advertising(
     }
     let size = data.len();
     let late = time::too_late(at);
-    let why = then_data(
+    let why = hearing::then_data(
         fit::first_refusal(true, store.len() == places::STORE_SIZE, !late),
         size,
     );
@@ -129,10 +101,10 @@ pub fn on_advertising(
     let keys = s.keys;
     let asks = matching::is_asking(running, pdu);
     let new = reports::is_due(asks, &keys, asked, key);
-    if new & (asked == places::MAX_KEYS) {
+    if hearing::keys_full(new, asked) {
         return unchanged(s, refusal::KEYS_FULL);
     }
-    let len = narrow(size);
+    let len = hearing::narrow(size);
     let step = running.step;
     let mut who = s.who;
     let i = reports::find(&who, count, key);
@@ -244,50 +216,5 @@ pub fn on_advertising(
         state: o,
         refusal: refusal::ACCEPTED,
         action,
-    }
-}
-
-// A scan response goes to its advertiser's report.
-pub fn on_scan_response(
-    s: State,
-    store: &mut [u8],
-    at: Micros,
-    address: Address,
-    data: &[u8],
-) -> Responded
-    ensures { λ r. ⌜ taken r (now (store .exit)) ≡ scanResponded (central s) (now (store .entry)) at address (now («data» .entry)) ⌝ }
-{
-    let size = data.len();
-    let why = then_data(fit::gate_quiet(s, store.len(), at), size);
-    if why != refusal::ACCEPTED {
-        return Responded {
-            state: s,
-            refusal: why,
-        };
-    }
-    let r = state::parts::reports_of(s);
-    let who = r.who;
-    let count = r.count;
-    let key = reports::key_of(address);
-    let i = reports::find(&who, count, key);
-    if i < count {
-        let mut h = r.heard;
-        h.at[i] = at.0;
-        h.response[i] = narrow(size);
-        reports::put_response(store, i, data);
-        let kept = Reports {
-            who,
-            heard: h,
-            count,
-        };
-        let o = state::parts::with_reports(s, kept);
-        return Responded {
-            state: o,
-            refusal: refusal::ACCEPTED,
-        };
-    }
-    Responded {
-        state: s,
-        refusal: refusal::ACCEPTED,
     }
 }

@@ -17,7 +17,7 @@ use Rattle.script.specs.Script.{canGo, stepOnce, advances, advance, advanceUnli
 use Rattle.calls.specs.Outcome.{Outcome, Quiet, done, refused, quietly, quietlyRefused}
 use Rattle.batch.specs.Batch.{pushSteps}
 use Rattle.events.specs.Events.{timedOut, due, expire, onTimer, linked, isConnect, greeted, connect, onConnected, unlinked, goesOn, cutStatus, cutOff, lose, onDisconnected}
-use Rattle.radio.specs.Radio as radio
+use Rattle.hearing.specs.Hearing as radio
 use Rattle.fragments.specs.Fragment.{dropped, withHeld, gathered, frameLength, frameChannel, whole, refusing}
 use Rattle.rules.specs.Link.{frameRead, gather, hear, onFragment}
 use Rattle.rules.specs.Channel.{onChannel}

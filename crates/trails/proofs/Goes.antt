@@ -36,9 +36,9 @@ use Rattle.script.specs.Script.{canGo}
 use Rattle.calls.proofs.BeginLaws.{begins-sound, sound-stays, may-begin}
 use Rattle.batch.proofs.CallLaws.{passed-batch, pushed-sound}
 use Rattle.events.specs.Events.{timedOut, due, isConnect, goesOn, cutStatus}
-use Rattle.radio.specs.Radio as radio
-use Rattle.radio.specs.Keeps as radio-keeps
-use Rattle.radio.specs.RadioLaws as radio-laws
+use Rattle.hearing.specs.Hearing as radio
+use Rattle.hearing.specs.Keeps as radio-keeps
+use Rattle.hearing.specs.HearingLaws as radio-laws
 use Rattle.reports.specs.Reports.{reportPart, heardAgain, againStore, heardFirst, firstStore, lastPlace, placeOf}
 use Rattle.reports.specs.Key.{key}
 use Rattle.matching.specs.Matching.{listens}

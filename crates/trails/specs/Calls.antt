@@ -16,7 +16,7 @@ use Rattle.waiting.specs.declared.Batch.{Batch}
 use Rattle.calls.specs.Outcome.{Outcome, Quiet, unsent}
 use Rattle.batch.specs.Batch.{gateBatch, pushSteps}
 use Rattle.events.specs.Events.{onTimer, onConnected, onDisconnected}
-use Rattle.radio.specs.Radio as radio
+use Rattle.hearing.specs.Hearing as radio
 use Rattle.fragments.specs.Fragment.{gateFragment}
 use Rattle.rules.specs.Link.{onFragment}
 

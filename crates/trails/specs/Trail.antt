@@ -16,7 +16,7 @@ use Rattle.waiting.specs.Waiting.{pushAll}
 use Rattle.script.specs.Script.{canGo, stepOnce}
 use Rattle.calls.specs.Outcome as outcome
 use Rattle.events.specs.Events.{timedOut, due, linked, isConnect, unlinked, goesOn, cutStatus}
-use Rattle.radio.specs.Radio as radio
+use Rattle.hearing.specs.Hearing as radio
 use Rattle.frames.specs.Payload.{payload}
 use Rattle.rules.specs.Channel.{onChannel}
 use Rattle.fragments.specs.Fragment.{dropped, withHeld, gathered, frameLength, frameChannel, whole}

@@ -118,7 +118,7 @@ fn advertised(t: Tally, s: State, h: u64, store: &mut [u8]) -> Tally {
 
 fn responded(t: Tally, s: State, h: u64, store: &mut [u8]) -> Tally {
     let data = DATA;
-    let a = radio::on_scan_response(s, store, AT, HEARD, &data);
+    let a = scan_responses::on_scan_response(s, store, AT, HEARD, &data);
     let state = a.state;
     quiet(t, a.refusal, state, h, store)
 }

@@ -1,5 +1,6 @@
-use Rattle.radio.specs.RadioLaws.{Passed, passed, Going, told, unfit-law, refused-law, open-law, quiet-law, full-law, key-place, known-asked, known-chosen, room-asked, room-chosen, full-asked, full-chosen, again-length, lowered-length}
-use Rattle.radio.specs.Radio.{thenData, adv}
+use Rattle.radio.specs.RadioLaws.{Going, told, unfit-law, refused-law, open-law, quiet-law, full-law, key-place, known-asked, known-chosen, room-asked, room-chosen, full-asked, full-chosen, again-length, lowered-length}
+use Rattle.hearing.specs.HearingLaws.{Passed, passed}
+use Rattle.hearing.specs.Hearing.{thenData, adv}
 use Rattle.reports.specs.ReportLaws.{Whole}
 use Rattle.fit.specs.FitLaws.{head-of, head-in, fit-of, of-fit, all-fit, unfit, steps-none, results-none, rising-none, values-none}
 use Rattle.fit.specs.Facts.{Fit}
@@ -26,8 +27,9 @@ use Rattle.fit.proofs.steps_fit.Reads as steps-fit-reads
 use Rattle.matching.proofs.choose.Reads as choose-reads
 use Rattle.matching.proofs.is_asking.Reads as is-asking-reads
 use Rattle.matching.proofs.is_listening.Reads as is-listening-reads
-use Rattle.radio.proofs.narrow.Reads as narrow-reads
-use Rattle.radio.proofs.then_data.Reads as then-data-reads
+use Rattle.hearing.proofs.keys_full.Reads as keys-full-reads
+use Rattle.hearing.proofs.narrow.Reads as narrow-reads
+use Rattle.hearing.proofs.then_data.Reads as then-data-reads
 use Rattle.radio.proofs.unchanged.Reads as unchanged-reads
 use Rattle.reports.proofs.drop_block.Reads as drop-block-reads
 use Rattle.reports.proofs.find.Reads as find-reads
@@ -77,15 +79,15 @@ short c =
     passed (central (a .s)) (length (a .store .now)) (a .at) (length (a .«data» .now)) (clear c)
 
 -- after refusal 8
-going : (c : tie.Else14) → let a = c .before .before .before .before .before .before .before .before .before .before .before .before .before .before .before .before .before .before .before .before .before .before .before .before .before .before .before .before .before .before .before .before .before .args in Going (central (a .s)) (a .store .now) (adv (a .at) (a .channel) (a .pdu) (a .address) (a .«data» .now) (a .to-central)) (c .before .before .before .before .before .key-of .result) (c .before .is-due .result)
+going : (c : tie.Else14) → let a = c .before .before .before .before .before .before .before .before .before .before .before .before .before .before .before .before .before .before .before .before .before .before .before .before .before .before .before .before .before .before .before .before .before .before .args in Going (central (a .s)) (a .store .now) (adv (a .at) (a .channel) (a .pdu) (a .address) (a .«data» .now) (a .to-central)) (c .before .before .before .before .before .before .key-of .result) (c .before .before .is-due .result)
 going c =
-    let a = c .before .before .before .before .before .before .before .before .before .before .before .before .before .before .before .before .before .before .before .before .before .before .before .before .before .before .before .before .before .before .before .before .before .args in
+    let a = c .before .before .before .before .before .before .before .before .before .before .before .before .before .before .before .before .before .before .before .before .before .before .before .before .before .before .before .before .before .before .before .before .before .before .args in
     record {
-      clear = clear (c .before .before .before .before .before .before .before .before);
-      listening = sym (c .before .before .before .before .before .before .before .is-listening .ensures) ∙ not-false _ (c .before .before .before .before .before .before .if13 .left);
-      keyed = c .before .before .before .before .before .key-of .ensures;
-      news = (c .before .is-due .ensures ∙ rw (c .before .before .before .is-asking .ensures, c .before .before .before .before .before .key-of .ensures));
-      room = c .if14 .left;
+      clear = clear (c .before .before .before .before .before .before .before .before .before);
+      listening = sym (c .before .before .before .before .before .before .before .before .is-listening .ensures) ∙ not-false _ (c .before .before .before .before .before .before .before .if13 .left);
+      keyed = c .before .before .before .before .before .before .key-of .ensures;
+      news = (c .before .before .is-due .ensures ∙ rw (c .before .before .before .before .is-asking .ensures, c .before .before .before .before .before .before .key-of .ensures));
+      room = sym (c .before .keys-full .ensures) ∙ c .if14 .left;
     }
 
 -- src/lib.rt:79:9
@@ -236,6 +238,10 @@ is-due-requires c κs =
     let a = c .before .before .before .before .before .before .before .before .before .before .before .before .before .before .before .before .before .before .before .before .before .before .before .before .before .before .before .before .before .before .before .args in
     ((fitted (c .before .before .before .before .before .before .before .before .before .before)) .head .keys, length-unmapped ℕ (a .s .keys) 128 ((c .before .before .before .before .before .before .before .before .before .before .before .before .before .before .before .before .before .before .before .before .before .before .before .before .before .before .before .before .before .before .before) .good .0 .1 .1 .1 .1 .1 .1 .1 .1 .1 .1 .1 .1 .1 .1 .1 .0 .1 .0 .1))
 
+-- src/lib.rt:104:8
+keys-full-requires : tie.Need-keys-full-requires
+keys-full-requires c κs = search needs
+
 -- src/lib.rt:133:9
 unchanged-requires-10 : tie.Need-unchanged-requires-10
 unchanged-requires-10 c κs = search needs
@@ -243,64 +249,64 @@ unchanged-requires-10 c κs = search needs
 -- src/lib.rt:133:9
 returns-10 : tie.Need-returns-10
 returns-10 c =
-    let a = c .before .before .before .before .before .before .before .before .before .before .before .before .before .before .before .before .before .before .before .before .before .before .before .before .before .before .before .before .before .before .before .before .before .before .args in
-    told (a .s) (c .unchanged10 .result) 8 (a .store .now) _ (c .unchanged10 .ensures) (full-law (central (a .s)) (a .store .now) (adv (a .at) (a .channel) (a .pdu) (a .address) (a .«data» .now) (a .to-central)) (clear (c .before .before .before .before .before .before .before .before .before)) (c .before .before .is-due .result) (c .before .before .is-due .ensures ∙ rw (c .before .before .before .before .is-asking .ensures, c .before .before .before .before .before .before .key-of .ensures)) (c .before .if14 .taken))
+    let a = c .before .before .before .before .before .before .before .before .before .before .before .before .before .before .before .before .before .before .before .before .before .before .before .before .before .before .before .before .before .before .before .before .before .before .before .args in
+    told (a .s) (c .unchanged10 .result) 8 (a .store .now) _ (c .unchanged10 .ensures) (full-law (central (a .s)) (a .store .now) (adv (a .at) (a .channel) (a .pdu) (a .address) (a .«data» .now) (a .to-central)) (clear (c .before .before .before .before .before .before .before .before .before .before)) (c .before .before .before .is-due .result) (c .before .before .before .is-due .ensures ∙ rw (c .before .before .before .before .before .is-asking .ensures, c .before .before .before .before .before .before .before .key-of .ensures)) (sym (c .before .before .keys-full .ensures) ∙ c .before .if14 .taken))
 
 -- src/lib.rt:135:9
 narrow-requires : tie.Need-narrow-requires
-narrow-requires c κs = short (c .before .before .before .before .before .before .before .before) .short
+narrow-requires c κs = short (c .before .before .before .before .before .before .before .before .before) .short
 
 -- src/lib.rt:138:9
 find-requires : tie.Need-find-requires
-find-requires c κs = ((fitted (c .before .before .before .before .before .before .before .before .before .before .before .before .before .before .before)) .head .reports, whole (c .before .before .before .before .before .before .before .before .before .before .before .before .before .before .before .before .before .before .before .before .before .before .before .before .before .before .before .before .before .before .before .before .before .before .before .before) .who)
+find-requires c κs = ((fitted (c .before .before .before .before .before .before .before .before .before .before .before .before .before .before .before .before)) .head .reports, whole (c .before .before .before .before .before .before .before .before .before .before .before .before .before .before .before .before .before .before .before .before .before .before .before .before .before .before .before .before .before .before .before .before .before .before .before .before .before) .who)
 
 -- src/lib.rt:140:9
 mul-h : tie.Need-mul-h
-mul-h c = let h : c .before .find .result < 64 = omega (arith, c .if15 .taken, (fitted (c .before .before .before .before .before .before .before .before .before .before .before .before .before .before .before .before .before)) .head .reports) in
+mul-h c = let h : c .before .find .result < 64 = omega (arith, c .if15 .taken, (fitted (c .before .before .before .before .before .before .before .before .before .before .before .before .before .before .before .before .before .before)) .head .reports) in
     omega (arith, h)
 
 -- src/lib.rt:140:9
 element-write-h : tie.Need-element-write-h
-element-write-h c = let h : c .before .find .result < 64 = omega (arith, c .if15 .taken, (fitted (c .before .before .before .before .before .before .before .before .before .before .before .before .before .before .before .before .before)) .head .reports) in
+element-write-h c = let h : c .before .find .result < 64 = omega (arith, c .if15 .taken, (fitted (c .before .before .before .before .before .before .before .before .before .before .before .before .before .before .before .before .before .before)) .head .reports) in
     omega (arith, h)
 
 -- src/lib.rt:141:9
 element-write-h-2 : tie.Need-element-write-h-2
-element-write-h-2 c = let h : c .before .find .result < 64 = omega (arith, c .if15 .taken, (fitted (c .before .before .before .before .before .before .before .before .before .before .before .before .before .before .before .before .before)) .head .reports) in
+element-write-h-2 c = let h : c .before .find .result < 64 = omega (arith, c .if15 .taken, (fitted (c .before .before .before .before .before .before .before .before .before .before .before .before .before .before .before .before .before .before)) .head .reports) in
     omega (arith, h)
 
 -- src/lib.rt:142:9
 element-write-h-3 : tie.Need-element-write-h-3
-element-write-h-3 c = let h : c .before .find .result < 64 = omega (arith, c .if15 .taken, (fitted (c .before .before .before .before .before .before .before .before .before .before .before .before .before .before .before .before .before)) .head .reports) in
+element-write-h-3 c = let h : c .before .find .result < 64 = omega (arith, c .if15 .taken, (fitted (c .before .before .before .before .before .before .before .before .before .before .before .before .before .before .before .before .before .before)) .head .reports) in
     omega (arith, h)
 
 -- src/lib.rt:143:9
 element-write-h-4 : tie.Need-element-write-h-4
-element-write-h-4 c = let h : c .before .find .result < 64 = omega (arith, c .if15 .taken, (fitted (c .before .before .before .before .before .before .before .before .before .before .before .before .before .before .before .before .before)) .head .reports) in
+element-write-h-4 c = let h : c .before .find .result < 64 = omega (arith, c .if15 .taken, (fitted (c .before .before .before .before .before .before .before .before .before .before .before .before .before .before .before .before .before .before)) .head .reports) in
     omega (arith, h)
 
 -- src/lib.rt:144:9
 put-data-requires : tie.Need-put-data-requires
-put-data-requires c κs = let h : c .before .before .find .result < 64 = omega (arith, c .before .if15 .taken, (fitted (c .before .before .before .before .before .before .before .before .before .before .before .before .before .before .before .before .before .before)) .head .reports) in
+put-data-requires c κs = let h : c .before .before .find .result < 64 = omega (arith, c .before .if15 .taken, (fitted (c .before .before .before .before .before .before .before .before .before .before .before .before .before .before .before .before .before .before .before)) .head .reports) in
     h
 
 -- src/lib.rt:149:13
 mul-more : tie.Need-mul-more
 mul-more c =
-    let a = c .before .before .before .before .before .before .before .before .before .before .before .before .before .before .before .before .before .before .before .before .before .before .before .before .before .before .before .before .before .before .before .before .before .before .before .before .before .before .before .before .before .before .before .before .args in
-    let h : a .s .«key_count» < 128 = key-place (central (a .s)) (a .store .now) (adv (a .at) (a .channel) (a .pdu) (a .address) (a .«data» .now) (a .to-central)) (c .before .before .before .before .before .before .before .before .before .before .before .before .before .before .before .before .key-of .result) (c .before .before .before .before .before .before .before .before .before .before .before .before .is-due .result) (going (c .before .before .before .before .before .before .before .before .before .before .before)) (c .before .if16 .taken) ((fitted (c .before .before .before .before .before .before .before .before .before .before .before .before .before .before .before .before .before .before .before .before .before .before .before)) .head .keys) in omega (arith, h)
+    let a = c .before .before .before .before .before .before .before .before .before .before .before .before .before .before .before .before .before .before .before .before .before .before .before .before .before .before .before .before .before .before .before .before .before .before .before .before .before .before .before .before .before .before .before .before .before .args in
+    let h : a .s .«key_count» < 128 = key-place (central (a .s)) (a .store .now) (adv (a .at) (a .channel) (a .pdu) (a .address) (a .«data» .now) (a .to-central)) (c .before .before .before .before .before .before .before .before .before .before .before .before .before .before .before .before .before .key-of .result) (c .before .before .before .before .before .before .before .before .before .before .before .before .before .is-due .result) (going (c .before .before .before .before .before .before .before .before .before .before .before)) (c .before .if16 .taken) ((fitted (c .before .before .before .before .before .before .before .before .before .before .before .before .before .before .before .before .before .before .before .before .before .before .before .before)) .head .keys) in omega (arith, h)
 
 -- src/lib.rt:149:13
 array-write-more : tie.Need-array-write-more
 array-write-more c =
-    let a = c .before .before .before .before .before .before .before .before .before .before .before .before .before .before .before .before .before .before .before .before .before .before .before .before .before .before .before .before .before .before .before .before .before .before .before .before .before .before .before .before .before .before .before .before .args in
-    let h : a .s .«key_count» < 128 = key-place (central (a .s)) (a .store .now) (adv (a .at) (a .channel) (a .pdu) (a .address) (a .«data» .now) (a .to-central)) (c .before .before .before .before .before .before .before .before .before .before .before .before .before .before .before .before .key-of .result) (c .before .before .before .before .before .before .before .before .before .before .before .before .is-due .result) (going (c .before .before .before .before .before .before .before .before .before .before .before)) (c .before .if16 .taken) ((fitted (c .before .before .before .before .before .before .before .before .before .before .before .before .before .before .before .before .before .before .before .before .before .before .before)) .head .keys) in omega (arith, h)
+    let a = c .before .before .before .before .before .before .before .before .before .before .before .before .before .before .before .before .before .before .before .before .before .before .before .before .before .before .before .before .before .before .before .before .before .before .before .before .before .before .before .before .before .before .before .before .before .args in
+    let h : a .s .«key_count» < 128 = key-place (central (a .s)) (a .store .now) (adv (a .at) (a .channel) (a .pdu) (a .address) (a .«data» .now) (a .to-central)) (c .before .before .before .before .before .before .before .before .before .before .before .before .before .before .before .before .before .key-of .result) (c .before .before .before .before .before .before .before .before .before .before .before .before .before .is-due .result) (going (c .before .before .before .before .before .before .before .before .before .before .before)) (c .before .if16 .taken) ((fitted (c .before .before .before .before .before .before .before .before .before .before .before .before .before .before .before .before .before .before .before .before .before .before .before .before)) .head .keys) in omega (arith, h)
 
 -- src/lib.rt:151:27
 add-o : tie.Need-add-o
 add-o c =
-    let a = c .before .before .before .before .before .before .before .before .before .before .before .before .before .before .before .before .before .before .before .before .before .before .before .before .before .before .before .before .before .before .before .before .before .before .before .before .before .before .before .before .before .before .before .before .args in
-    let h : a .s .«key_count» < 128 = key-place (central (a .s)) (a .store .now) (adv (a .at) (a .channel) (a .pdu) (a .address) (a .«data» .now) (a .to-central)) (c .before .before .before .before .before .before .before .before .before .before .before .before .before .before .before .before .key-of .result) (c .before .before .before .before .before .before .before .before .before .before .before .before .is-due .result) (going (c .before .before .before .before .before .before .before .before .before .before .before)) (c .before .if16 .taken) ((fitted (c .before .before .before .before .before .before .before .before .before .before .before .before .before .before .before .before .before .before .before .before .before .before .before)) .head .keys) in omega (arith, h)
+    let a = c .before .before .before .before .before .before .before .before .before .before .before .before .before .before .before .before .before .before .before .before .before .before .before .before .before .before .before .before .before .before .before .before .before .before .before .before .before .before .before .before .before .before .before .before .before .args in
+    let h : a .s .«key_count» < 128 = key-place (central (a .s)) (a .store .now) (adv (a .at) (a .channel) (a .pdu) (a .address) (a .«data» .now) (a .to-central)) (c .before .before .before .before .before .before .before .before .before .before .before .before .before .before .before .before .before .key-of .result) (c .before .before .before .before .before .before .before .before .before .before .before .before .before .is-due .result) (going (c .before .before .before .before .before .before .before .before .before .before .before)) (c .before .if16 .taken) ((fitted (c .before .before .before .before .before .before .before .before .before .before .before .before .before .before .before .before .before .before .before .before .before .before .before .before)) .head .keys) in omega (arith, h)
 
 -- src/lib.rt:152:13
 same-length : tie.Need-same-length
@@ -309,20 +315,20 @@ same-length c = search needs
 -- src/lib.rt:152:13
 returns-11 : tie.Need-returns-11
 returns-11 c =
-    let a = c .before .before .before .before .before .before .before .before .before .before .before .before .before .before .before .before .before .before .before .before .before .before .before .before .before .before .before .before .before .before .before .before .before .before .before .before .before .before .before .before .before .before .before .before .args in
-    known-asked (central (a .s)) (a .store .now) _ (adv (a .at) (a .channel) (a .pdu) (a .address) (a .«data» .now) (a .to-central)) (c .before .before .before .before .before .before .before .before .before .before .before .before .before .before .before .before .key-of .result) (c .before .before .before .before .before .before .before .before .before .before .before .before .is-due .result) (going (c .before .before .before .before .before .before .before .before .before .before .before)) (c .before .before .before .before .before .before .before .find .result) (c .before .before .before .before .before .before .before .before .before .before .narrow .result) (c .before .before .before .before .before .before .before .before .before .before .narrow .ensures) (c .before .before .before .before .before .before .before .find .ensures .0) (c .before .before .before .before .before .before .if15 .taken) (c .before .before .before .before .put-data .ensures) (c .before .if16 .taken)
+    let a = c .before .before .before .before .before .before .before .before .before .before .before .before .before .before .before .before .before .before .before .before .before .before .before .before .before .before .before .before .before .before .before .before .before .before .before .before .before .before .before .before .before .before .before .before .before .args in
+    known-asked (central (a .s)) (a .store .now) _ (adv (a .at) (a .channel) (a .pdu) (a .address) (a .«data» .now) (a .to-central)) (c .before .before .before .before .before .before .before .before .before .before .before .before .before .before .before .before .before .key-of .result) (c .before .before .before .before .before .before .before .before .before .before .before .before .before .is-due .result) (going (c .before .before .before .before .before .before .before .before .before .before .before)) (c .before .before .before .before .before .before .before .find .result) (c .before .before .before .before .before .before .before .before .before .before .narrow .result) (c .before .before .before .before .before .before .before .before .before .before .narrow .ensures) (c .before .before .before .before .before .before .before .find .ensures .0) (c .before .before .before .before .before .before .if15 .taken) (c .before .before .before .before .put-data .ensures) (c .before .if16 .taken)
 
 -- src/lib.rt:158:24
 element-copy-out-response : tie.Need-element-copy-out-response
-element-copy-out-response c = let h : c .before .before .before .before .before .before .find .result < 64 = omega (arith, c .before .before .before .before .before .if15 .taken, (fitted (c .before .before .before .before .before .before .before .before .before .before .before .before .before .before .before .before .before .before .before .before .before .before)) .head .reports) in
+element-copy-out-response c = let h : c .before .before .before .before .before .before .find .result < 64 = omega (arith, c .before .before .before .before .before .if15 .taken, (fitted (c .before .before .before .before .before .before .before .before .before .before .before .before .before .before .before .before .before .before .before .before .before .before .before)) .head .reports) in
     omega (arith, h)
 
 -- src/lib.rt:159:13
 choose-requires : tie.Need-choose-requires
 choose-requires c κs =
-    let a = c .before .before .before .before .before .before .before .before .before .before .before .before .before .before .before .before .before .before .before .before .before .before .before .before .before .before .before .before .before .before .before .before .before .before .before .before .before .before .before .before .before .before .before .before .before .args in
-    let h : c .before .before .before .before .before .before .before .before .find .result < 64 = omega (arith, c .before .before .before .before .before .before .before .if15 .taken, (fitted (c .before .before .before .before .before .before .before .before .before .before .before .before .before .before .before .before .before .before .before .before .before .before .before .before)) .head .reports) in
-    (again-length (c .before .before .before .before .before .before .before .before .find .result) (a .«data» .now) (a .store .now) _ (c .before .before .before .before .before .put-data .ensures) (short (c .before .before .before .before .before .before .before .before .before .before .before .before .before .before .before .before .before .before .before .before) .gate .store), h)
+    let a = c .before .before .before .before .before .before .before .before .before .before .before .before .before .before .before .before .before .before .before .before .before .before .before .before .before .before .before .before .before .before .before .before .before .before .before .before .before .before .before .before .before .before .before .before .before .before .args in
+    let h : c .before .before .before .before .before .before .before .before .find .result < 64 = omega (arith, c .before .before .before .before .before .before .before .if15 .taken, (fitted (c .before .before .before .before .before .before .before .before .before .before .before .before .before .before .before .before .before .before .before .before .before .before .before .before .before)) .head .reports) in
+    (again-length (c .before .before .before .before .before .before .before .before .find .result) (a .«data» .now) (a .store .now) _ (c .before .before .before .before .before .put-data .ensures) (short (c .before .before .before .before .before .before .before .before .before .before .before .before .before .before .before .before .before .before .before .before .before) .gate .store), h)
 
 -- src/lib.rt:160:9
 same-length-2 : tie.Need-same-length-2
@@ -331,8 +337,8 @@ same-length-2 c = search needs
 -- src/lib.rt:160:9
 returns-12 : tie.Need-returns-12
 returns-12 c =
-    let a = c .before .before .before .before .before .before .before .before .before .before .before .before .before .before .before .before .before .before .before .before .before .before .before .before .before .before .before .before .before .before .before .before .before .before .before .before .before .before .before .before .before .before .before .before .before .before .args in
-    known-chosen (central (a .s)) (a .store .now) _ (adv (a .at) (a .channel) (a .pdu) (a .address) (a .«data» .now) (a .to-central)) (c .before .before .before .before .before .before .before .before .before .before .before .before .before .before .before .before .before .before .key-of .result) (c .before .before .before .before .before .before .before .before .before .before .before .before .before .before .is-due .result) (going (c .before .before .before .before .before .before .before .before .before .before .before .before .before)) (c .before .before .before .before .before .before .before .before .before .find .result) (c .before .before .before .before .before .before .before .before .before .before .before .before .narrow .result) (c .before .before .before .before .before .before .before .before .before .before .before .before .narrow .ensures) (c .before .before .before .before .before .before .before .before .before .find .ensures .0) (c .before .before .before .before .before .before .before .before .if15 .taken) (c .before .before .before .before .before .before .put-data .ensures) _ (c .before .before .before .if16 .left) (c .choose .ensures)
+    let a = c .before .before .before .before .before .before .before .before .before .before .before .before .before .before .before .before .before .before .before .before .before .before .before .before .before .before .before .before .before .before .before .before .before .before .before .before .before .before .before .before .before .before .before .before .before .before .before .args in
+    known-chosen (central (a .s)) (a .store .now) _ (adv (a .at) (a .channel) (a .pdu) (a .address) (a .«data» .now) (a .to-central)) (c .before .before .before .before .before .before .before .before .before .before .before .before .before .before .before .before .before .before .before .key-of .result) (c .before .before .before .before .before .before .before .before .before .before .before .before .before .before .before .is-due .result) (going (c .before .before .before .before .before .before .before .before .before .before .before .before .before)) (c .before .before .before .before .before .before .before .before .before .find .result) (c .before .before .before .before .before .before .before .before .before .before .before .before .narrow .result) (c .before .before .before .before .before .before .before .before .before .before .before .before .narrow .ensures) (c .before .before .before .before .before .before .before .before .before .find .ensures .0) (c .before .before .before .before .before .before .before .before .if15 .taken) (c .before .before .before .before .before .before .put-data .ensures) _ (c .before .before .before .if16 .left) (c .choose .ensures)
 
 -- src/lib.rt:167:9
 mul-who : tie.Need-mul-who
@@ -377,20 +383,20 @@ add-o-2 c = search needs
 -- src/lib.rt:180:13
 mul-more-2 : tie.Need-mul-more-2
 mul-more-2 c =
-    let a = c .before .before .before .before .before .before .before .before .before .before .before .before .before .before .before .before .before .before .before .before .before .before .before .before .before .before .before .before .before .before .before .before .before .before .before .before .before .before .before .before .before .before .before .before .before .args in
-    let h : a .s .«key_count» < 128 = key-place (central (a .s)) (a .store .now) (adv (a .at) (a .channel) (a .pdu) (a .address) (a .«data» .now) (a .to-central)) (c .before .before .before .before .before .before .before .before .before .before .before .before .before .before .before .before .before .key-of .result) (c .before .before .before .before .before .before .before .before .before .before .before .before .before .is-due .result) (going (c .before .before .before .before .before .before .before .before .before .before .before .before)) (c .before .if18 .taken) ((fitted (c .before .before .before .before .before .before .before .before .before .before .before .before .before .before .before .before .before .before .before .before .before .before .before .before)) .head .keys) in omega (arith, h)
+    let a = c .before .before .before .before .before .before .before .before .before .before .before .before .before .before .before .before .before .before .before .before .before .before .before .before .before .before .before .before .before .before .before .before .before .before .before .before .before .before .before .before .before .before .before .before .before .before .args in
+    let h : a .s .«key_count» < 128 = key-place (central (a .s)) (a .store .now) (adv (a .at) (a .channel) (a .pdu) (a .address) (a .«data» .now) (a .to-central)) (c .before .before .before .before .before .before .before .before .before .before .before .before .before .before .before .before .before .before .key-of .result) (c .before .before .before .before .before .before .before .before .before .before .before .before .before .before .is-due .result) (going (c .before .before .before .before .before .before .before .before .before .before .before .before)) (c .before .if18 .taken) ((fitted (c .before .before .before .before .before .before .before .before .before .before .before .before .before .before .before .before .before .before .before .before .before .before .before .before .before)) .head .keys) in omega (arith, h)
 
 -- src/lib.rt:180:13
 array-write-more-2 : tie.Need-array-write-more-2
 array-write-more-2 c =
-    let a = c .before .before .before .before .before .before .before .before .before .before .before .before .before .before .before .before .before .before .before .before .before .before .before .before .before .before .before .before .before .before .before .before .before .before .before .before .before .before .before .before .before .before .before .before .before .args in
-    let h : a .s .«key_count» < 128 = key-place (central (a .s)) (a .store .now) (adv (a .at) (a .channel) (a .pdu) (a .address) (a .«data» .now) (a .to-central)) (c .before .before .before .before .before .before .before .before .before .before .before .before .before .before .before .before .before .key-of .result) (c .before .before .before .before .before .before .before .before .before .before .before .before .before .is-due .result) (going (c .before .before .before .before .before .before .before .before .before .before .before .before)) (c .before .if18 .taken) ((fitted (c .before .before .before .before .before .before .before .before .before .before .before .before .before .before .before .before .before .before .before .before .before .before .before .before)) .head .keys) in omega (arith, h)
+    let a = c .before .before .before .before .before .before .before .before .before .before .before .before .before .before .before .before .before .before .before .before .before .before .before .before .before .before .before .before .before .before .before .before .before .before .before .before .before .before .before .before .before .before .before .before .before .before .args in
+    let h : a .s .«key_count» < 128 = key-place (central (a .s)) (a .store .now) (adv (a .at) (a .channel) (a .pdu) (a .address) (a .«data» .now) (a .to-central)) (c .before .before .before .before .before .before .before .before .before .before .before .before .before .before .before .before .before .before .key-of .result) (c .before .before .before .before .before .before .before .before .before .before .before .before .before .before .is-due .result) (going (c .before .before .before .before .before .before .before .before .before .before .before .before)) (c .before .if18 .taken) ((fitted (c .before .before .before .before .before .before .before .before .before .before .before .before .before .before .before .before .before .before .before .before .before .before .before .before .before)) .head .keys) in omega (arith, h)
 
 -- src/lib.rt:182:27
 add-o-3 : tie.Need-add-o-3
 add-o-3 c =
-    let a = c .before .before .before .before .before .before .before .before .before .before .before .before .before .before .before .before .before .before .before .before .before .before .before .before .before .before .before .before .before .before .before .before .before .before .before .before .before .before .before .before .before .before .before .before .before .args in
-    let h : a .s .«key_count» < 128 = key-place (central (a .s)) (a .store .now) (adv (a .at) (a .channel) (a .pdu) (a .address) (a .«data» .now) (a .to-central)) (c .before .before .before .before .before .before .before .before .before .before .before .before .before .before .before .before .before .key-of .result) (c .before .before .before .before .before .before .before .before .before .before .before .before .before .is-due .result) (going (c .before .before .before .before .before .before .before .before .before .before .before .before)) (c .before .if18 .taken) ((fitted (c .before .before .before .before .before .before .before .before .before .before .before .before .before .before .before .before .before .before .before .before .before .before .before .before)) .head .keys) in omega (arith, h)
+    let a = c .before .before .before .before .before .before .before .before .before .before .before .before .before .before .before .before .before .before .before .before .before .before .before .before .before .before .before .before .before .before .before .before .before .before .before .before .before .before .before .before .before .before .before .before .before .before .args in
+    let h : a .s .«key_count» < 128 = key-place (central (a .s)) (a .store .now) (adv (a .at) (a .channel) (a .pdu) (a .address) (a .«data» .now) (a .to-central)) (c .before .before .before .before .before .before .before .before .before .before .before .before .before .before .before .before .before .before .key-of .result) (c .before .before .before .before .before .before .before .before .before .before .before .before .before .before .is-due .result) (going (c .before .before .before .before .before .before .before .before .before .before .before .before)) (c .before .if18 .taken) ((fitted (c .before .before .before .before .before .before .before .before .before .before .before .before .before .before .before .before .before .before .before .before .before .before .before .before .before)) .head .keys) in omega (arith, h)
 
 -- src/lib.rt:183:13
 same-length-3 : tie.Need-same-length-3
@@ -399,14 +405,14 @@ same-length-3 c = search needs
 -- src/lib.rt:183:13
 returns-13 : tie.Need-returns-13
 returns-13 c =
-    let a = c .before .before .before .before .before .before .before .before .before .before .before .before .before .before .before .before .before .before .before .before .before .before .before .before .before .before .before .before .before .before .before .before .before .before .before .before .before .before .before .before .before .before .before .before .before .args in
-    room-asked (central (a .s)) (a .store .now) _ (adv (a .at) (a .channel) (a .pdu) (a .address) (a .«data» .now) (a .to-central)) (c .before .before .before .before .before .before .before .before .before .before .before .before .before .before .before .before .before .key-of .result) (c .before .before .before .before .before .before .before .before .before .before .before .before .before .is-due .result) (going (c .before .before .before .before .before .before .before .before .before .before .before .before)) (c .before .before .before .before .before .before .before .before .find .result) (c .before .before .before .before .before .before .before .before .before .before .before .narrow .result) (c .before .before .before .before .before .before .before .before .before .before .before .narrow .ensures) (c .before .before .before .before .before .before .before .before .find .ensures .0) (whole (c .before .before .before .before .before .before .before .before .before .before .before .before .before .before .before .before .before .before .before .before .before .before .before .before .before .before .before .before .before .before .before .before .before .before .before .before .before .before .before .before .before .before .before .before .before)) (c .before .before .before .before .before .before .before .if15 .left) (c .before .before .before .before .before .before .if17 .taken) (c .before .before .before .before .put-data2 .ensures) (c .before .if18 .taken)
+    let a = c .before .before .before .before .before .before .before .before .before .before .before .before .before .before .before .before .before .before .before .before .before .before .before .before .before .before .before .before .before .before .before .before .before .before .before .before .before .before .before .before .before .before .before .before .before .before .args in
+    room-asked (central (a .s)) (a .store .now) _ (adv (a .at) (a .channel) (a .pdu) (a .address) (a .«data» .now) (a .to-central)) (c .before .before .before .before .before .before .before .before .before .before .before .before .before .before .before .before .before .before .key-of .result) (c .before .before .before .before .before .before .before .before .before .before .before .before .before .before .is-due .result) (going (c .before .before .before .before .before .before .before .before .before .before .before .before)) (c .before .before .before .before .before .before .before .before .find .result) (c .before .before .before .before .before .before .before .before .before .before .before .narrow .result) (c .before .before .before .before .before .before .before .before .before .before .before .narrow .ensures) (c .before .before .before .before .before .before .before .before .find .ensures .0) (whole (c .before .before .before .before .before .before .before .before .before .before .before .before .before .before .before .before .before .before .before .before .before .before .before .before .before .before .before .before .before .before .before .before .before .before .before .before .before .before .before .before .before .before .before .before .before .before)) (c .before .before .before .before .before .before .before .if15 .left) (c .before .before .before .before .before .before .if17 .taken) (c .before .before .before .before .put-data2 .ensures) (c .before .if18 .taken)
 
 -- src/lib.rt:189:13
 choose-requires-2 : tie.Need-choose-requires-2
 choose-requires-2 c κs =
-    let a = c .before .before .before .before .before .before .before .before .before .before .before .before .before .before .before .before .before .before .before .before .before .before .before .before .before .before .before .before .before .before .before .before .before .before .before .before .before .before .before .before .before .before .before .before .before .args in
-    (again-length (a .s .reports) (a .«data» .now) (a .store .now) _ (c .before .before .before .before .put-data2 .ensures) (short (c .before .before .before .before .before .before .before .before .before .before .before .before .before .before .before .before .before .before .before .before) .gate .store), c .before .before .before .before .before .before .if17 .taken)
+    let a = c .before .before .before .before .before .before .before .before .before .before .before .before .before .before .before .before .before .before .before .before .before .before .before .before .before .before .before .before .before .before .before .before .before .before .before .before .before .before .before .before .before .before .before .before .before .before .args in
+    (again-length (a .s .reports) (a .«data» .now) (a .store .now) _ (c .before .before .before .before .put-data2 .ensures) (short (c .before .before .before .before .before .before .before .before .before .before .before .before .before .before .before .before .before .before .before .before .before) .gate .store), c .before .before .before .before .before .before .if17 .taken)
 
 -- src/lib.rt:199:9
 same-length-4 : tie.Need-same-length-4
@@ -415,32 +421,32 @@ same-length-4 c = search needs
 -- src/lib.rt:199:9
 returns-14 : tie.Need-returns-14
 returns-14 c =
-    let a = c .before .before .before .before .before .before .before .before .before .before .before .before .before .before .before .before .before .before .before .before .before .before .before .before .before .before .before .before .before .before .before .before .before .before .before .before .before .before .before .before .before .before .before .before .before .before .args in
-    room-chosen (central (a .s)) (a .store .now) _ (adv (a .at) (a .channel) (a .pdu) (a .address) (a .«data» .now) (a .to-central)) (c .before .before .before .before .before .before .before .before .before .before .before .before .before .before .before .before .before .before .key-of .result) (c .before .before .before .before .before .before .before .before .before .before .before .before .before .before .is-due .result) (going (c .before .before .before .before .before .before .before .before .before .before .before .before .before)) (c .before .before .before .before .before .before .before .before .before .find .result) (c .before .before .before .before .before .before .before .before .before .before .before .before .narrow .result) (c .before .before .before .before .before .before .before .before .before .before .before .before .narrow .ensures) (c .before .before .before .before .before .before .before .before .before .find .ensures .0) (whole (c .before .before .before .before .before .before .before .before .before .before .before .before .before .before .before .before .before .before .before .before .before .before .before .before .before .before .before .before .before .before .before .before .before .before .before .before .before .before .before .before .before .before .before .before .before .before)) (c .before .before .before .before .before .before .before .before .if15 .left) (c .before .before .before .before .before .before .before .if17 .taken) (c .before .before .before .before .before .put-data2 .ensures) _ (c .before .before .if18 .left) (c .choose2 .ensures)
+    let a = c .before .before .before .before .before .before .before .before .before .before .before .before .before .before .before .before .before .before .before .before .before .before .before .before .before .before .before .before .before .before .before .before .before .before .before .before .before .before .before .before .before .before .before .before .before .before .before .args in
+    room-chosen (central (a .s)) (a .store .now) _ (adv (a .at) (a .channel) (a .pdu) (a .address) (a .«data» .now) (a .to-central)) (c .before .before .before .before .before .before .before .before .before .before .before .before .before .before .before .before .before .before .before .key-of .result) (c .before .before .before .before .before .before .before .before .before .before .before .before .before .before .before .is-due .result) (going (c .before .before .before .before .before .before .before .before .before .before .before .before .before)) (c .before .before .before .before .before .before .before .before .before .find .result) (c .before .before .before .before .before .before .before .before .before .before .before .before .narrow .result) (c .before .before .before .before .before .before .before .before .before .before .before .before .narrow .ensures) (c .before .before .before .before .before .before .before .before .before .find .ensures .0) (whole (c .before .before .before .before .before .before .before .before .before .before .before .before .before .before .before .before .before .before .before .before .before .before .before .before .before .before .before .before .before .before .before .before .before .before .before .before .before .before .before .before .before .before .before .before .before .before .before)) (c .before .before .before .before .before .before .before .before .if15 .left) (c .before .before .before .before .before .before .before .if17 .taken) (c .before .before .before .before .before .put-data2 .ensures) _ (c .before .before .if18 .left) (c .choose2 .ensures)
 
 -- src/lib.rt:205:5
 shift-words-requires : tie.Need-shift-words-requires
-shift-words-requires c κs = whole (c .before .before .before .before .before .before .before .before .before .before .before .before .before .before .before .before .before .before .before .before .before .before .before .before .before .before .before .before .before .before .before .before .before .before .before .before .before .before .before .before) .who
+shift-words-requires c κs = whole (c .before .before .before .before .before .before .before .before .before .before .before .before .before .before .before .before .before .before .before .before .before .before .before .before .before .before .before .before .before .before .before .before .before .before .before .before .before .before .before .before .before) .who
 
 -- src/lib.rt:206:5
 shift-words-requires-2 : tie.Need-shift-words-requires-2
-shift-words-requires-2 c κs = whole (c .before .before .before .before .before .before .before .before .before .before .before .before .before .before .before .before .before .before .before .before .before .before .before .before .before .before .before .before .before .before .before .before .before .before .before .before .before .before .before .before .before .before) .at
+shift-words-requires-2 c κs = whole (c .before .before .before .before .before .before .before .before .before .before .before .before .before .before .before .before .before .before .before .before .before .before .before .before .before .before .before .before .before .before .before .before .before .before .before .before .before .before .before .before .before .before .before) .at
 
 -- src/lib.rt:207:5
 shift-bytes-requires : tie.Need-shift-bytes-requires
-shift-bytes-requires c κs = whole (c .before .before .before .before .before .before .before .before .before .before .before .before .before .before .before .before .before .before .before .before .before .before .before .before .before .before .before .before .before .before .before .before .before .before .before .before .before .before .before .before .before .before .before .before) .channel
+shift-bytes-requires c κs = whole (c .before .before .before .before .before .before .before .before .before .before .before .before .before .before .before .before .before .before .before .before .before .before .before .before .before .before .before .before .before .before .before .before .before .before .before .before .before .before .before .before .before .before .before .before .before) .channel
 
 -- src/lib.rt:208:5
 shift-bytes-requires-2 : tie.Need-shift-bytes-requires-2
-shift-bytes-requires-2 c κs = whole (c .before .before .before .before .before .before .before .before .before .before .before .before .before .before .before .before .before .before .before .before .before .before .before .before .before .before .before .before .before .before .before .before .before .before .before .before .before .before .before .before .before .before .before .before .before .before) .pdu
+shift-bytes-requires-2 c κs = whole (c .before .before .before .before .before .before .before .before .before .before .before .before .before .before .before .before .before .before .before .before .before .before .before .before .before .before .before .before .before .before .before .before .before .before .before .before .before .before .before .before .before .before .before .before .before .before .before) .pdu
 
 -- src/lib.rt:209:5
 shift-bytes-requires-3 : tie.Need-shift-bytes-requires-3
-shift-bytes-requires-3 c κs = whole (c .before .before .before .before .before .before .before .before .before .before .before .before .before .before .before .before .before .before .before .before .before .before .before .before .before .before .before .before .before .before .before .before .before .before .before .before .before .before .before .before .before .before .before .before .before .before .before .before) .len
+shift-bytes-requires-3 c κs = whole (c .before .before .before .before .before .before .before .before .before .before .before .before .before .before .before .before .before .before .before .before .before .before .before .before .before .before .before .before .before .before .before .before .before .before .before .before .before .before .before .before .before .before .before .before .before .before .before .before .before) .len
 
 -- src/lib.rt:210:5
 shift-bytes-requires-4 : tie.Need-shift-bytes-requires-4
-shift-bytes-requires-4 c κs = whole (c .before .before .before .before .before .before .before .before .before .before .before .before .before .before .before .before .before .before .before .before .before .before .before .before .before .before .before .before .before .before .before .before .before .before .before .before .before .before .before .before .before .before .before .before .before .before .before .before .before .before) .response
+shift-bytes-requires-4 c κs = whole (c .before .before .before .before .before .before .before .before .before .before .before .before .before .before .before .before .before .before .before .before .before .before .before .before .before .before .before .before .before .before .before .before .before .before .before .before .before .before .before .before .before .before .before .before .before .before .before .before .before .before .before) .response
 
 -- src/lib.rt:211:5
 array-write-who-2 : tie.Need-array-write-who-2
@@ -477,20 +483,20 @@ put-data-requires-3 c κs = search needs
 -- src/lib.rt:224:9
 mul-more-3 : tie.Need-mul-more-3
 mul-more-3 c =
-    let a = c .before .before .before .before .before .before .before .before .before .before .before .before .before .before .before .before .before .before .before .before .before .before .before .before .before .before .before .before .before .before .before .before .before .before .before .before .before .before .before .before .before .before .before .before .before .before .before .before .before .before .before .before .before .before .before .before .before .before .before .before .before .args in
-    let h : a .s .«key_count» < 128 = key-place (central (a .s)) (a .store .now) (adv (a .at) (a .channel) (a .pdu) (a .address) (a .«data» .now) (a .to-central)) (c .before .before .before .before .before .before .before .before .before .before .before .before .before .before .before .before .before .before .before .before .before .before .before .before .before .before .before .before .before .before .before .before .before .key-of .result) (c .before .before .before .before .before .before .before .before .before .before .before .before .before .before .before .before .before .before .before .before .before .before .before .before .before .before .before .before .before .is-due .result) (going (c .before .before .before .before .before .before .before .before .before .before .before .before .before .before .before .before .before .before .before .before .before .before .before .before .before .before .before .before)) (c .before .if19 .taken) ((fitted (c .before .before .before .before .before .before .before .before .before .before .before .before .before .before .before .before .before .before .before .before .before .before .before .before .before .before .before .before .before .before .before .before .before .before .before .before .before .before .before .before)) .head .keys) in omega (arith, h)
+    let a = c .before .before .before .before .before .before .before .before .before .before .before .before .before .before .before .before .before .before .before .before .before .before .before .before .before .before .before .before .before .before .before .before .before .before .before .before .before .before .before .before .before .before .before .before .before .before .before .before .before .before .before .before .before .before .before .before .before .before .before .before .before .before .args in
+    let h : a .s .«key_count» < 128 = key-place (central (a .s)) (a .store .now) (adv (a .at) (a .channel) (a .pdu) (a .address) (a .«data» .now) (a .to-central)) (c .before .before .before .before .before .before .before .before .before .before .before .before .before .before .before .before .before .before .before .before .before .before .before .before .before .before .before .before .before .before .before .before .before .before .key-of .result) (c .before .before .before .before .before .before .before .before .before .before .before .before .before .before .before .before .before .before .before .before .before .before .before .before .before .before .before .before .before .before .is-due .result) (going (c .before .before .before .before .before .before .before .before .before .before .before .before .before .before .before .before .before .before .before .before .before .before .before .before .before .before .before .before)) (c .before .if19 .taken) ((fitted (c .before .before .before .before .before .before .before .before .before .before .before .before .before .before .before .before .before .before .before .before .before .before .before .before .before .before .before .before .before .before .before .before .before .before .before .before .before .before .before .before .before)) .head .keys) in omega (arith, h)
 
 -- src/lib.rt:224:9
 array-write-more-3 : tie.Need-array-write-more-3
 array-write-more-3 c =
-    let a = c .before .before .before .before .before .before .before .before .before .before .before .before .before .before .before .before .before .before .before .before .before .before .before .before .before .before .before .before .before .before .before .before .before .before .before .before .before .before .before .before .before .before .before .before .before .before .before .before .before .before .before .before .before .before .before .before .before .before .before .before .before .args in
-    let h : a .s .«key_count» < 128 = key-place (central (a .s)) (a .store .now) (adv (a .at) (a .channel) (a .pdu) (a .address) (a .«data» .now) (a .to-central)) (c .before .before .before .before .before .before .before .before .before .before .before .before .before .before .before .before .before .before .before .before .before .before .before .before .before .before .before .before .before .before .before .before .before .key-of .result) (c .before .before .before .before .before .before .before .before .before .before .before .before .before .before .before .before .before .before .before .before .before .before .before .before .before .before .before .before .before .is-due .result) (going (c .before .before .before .before .before .before .before .before .before .before .before .before .before .before .before .before .before .before .before .before .before .before .before .before .before .before .before .before)) (c .before .if19 .taken) ((fitted (c .before .before .before .before .before .before .before .before .before .before .before .before .before .before .before .before .before .before .before .before .before .before .before .before .before .before .before .before .before .before .before .before .before .before .before .before .before .before .before .before)) .head .keys) in omega (arith, h)
+    let a = c .before .before .before .before .before .before .before .before .before .before .before .before .before .before .before .before .before .before .before .before .before .before .before .before .before .before .before .before .before .before .before .before .before .before .before .before .before .before .before .before .before .before .before .before .before .before .before .before .before .before .before .before .before .before .before .before .before .before .before .before .before .before .args in
+    let h : a .s .«key_count» < 128 = key-place (central (a .s)) (a .store .now) (adv (a .at) (a .channel) (a .pdu) (a .address) (a .«data» .now) (a .to-central)) (c .before .before .before .before .before .before .before .before .before .before .before .before .before .before .before .before .before .before .before .before .before .before .before .before .before .before .before .before .before .before .before .before .before .before .key-of .result) (c .before .before .before .before .before .before .before .before .before .before .before .before .before .before .before .before .before .before .before .before .before .before .before .before .before .before .before .before .before .before .is-due .result) (going (c .before .before .before .before .before .before .before .before .before .before .before .before .before .before .before .before .before .before .before .before .before .before .before .before .before .before .before .before)) (c .before .if19 .taken) ((fitted (c .before .before .before .before .before .before .before .before .before .before .before .before .before .before .before .before .before .before .before .before .before .before .before .before .before .before .before .before .before .before .before .before .before .before .before .before .before .before .before .before .before)) .head .keys) in omega (arith, h)
 
 -- src/lib.rt:226:23
 add-o-4 : tie.Need-add-o-4
 add-o-4 c =
-    let a = c .before .before .before .before .before .before .before .before .before .before .before .before .before .before .before .before .before .before .before .before .before .before .before .before .before .before .before .before .before .before .before .before .before .before .before .before .before .before .before .before .before .before .before .before .before .before .before .before .before .before .before .before .before .before .before .before .before .before .before .before .before .args in
-    let h : a .s .«key_count» < 128 = key-place (central (a .s)) (a .store .now) (adv (a .at) (a .channel) (a .pdu) (a .address) (a .«data» .now) (a .to-central)) (c .before .before .before .before .before .before .before .before .before .before .before .before .before .before .before .before .before .before .before .before .before .before .before .before .before .before .before .before .before .before .before .before .before .key-of .result) (c .before .before .before .before .before .before .before .before .before .before .before .before .before .before .before .before .before .before .before .before .before .before .before .before .before .before .before .before .before .is-due .result) (going (c .before .before .before .before .before .before .before .before .before .before .before .before .before .before .before .before .before .before .before .before .before .before .before .before .before .before .before .before)) (c .before .if19 .taken) ((fitted (c .before .before .before .before .before .before .before .before .before .before .before .before .before .before .before .before .before .before .before .before .before .before .before .before .before .before .before .before .before .before .before .before .before .before .before .before .before .before .before .before)) .head .keys) in omega (arith, h)
+    let a = c .before .before .before .before .before .before .before .before .before .before .before .before .before .before .before .before .before .before .before .before .before .before .before .before .before .before .before .before .before .before .before .before .before .before .before .before .before .before .before .before .before .before .before .before .before .before .before .before .before .before .before .before .before .before .before .before .before .before .before .before .before .before .args in
+    let h : a .s .«key_count» < 128 = key-place (central (a .s)) (a .store .now) (adv (a .at) (a .channel) (a .pdu) (a .address) (a .«data» .now) (a .to-central)) (c .before .before .before .before .before .before .before .before .before .before .before .before .before .before .before .before .before .before .before .before .before .before .before .before .before .before .before .before .before .before .before .before .before .before .key-of .result) (c .before .before .before .before .before .before .before .before .before .before .before .before .before .before .before .before .before .before .before .before .before .before .before .before .before .before .before .before .before .before .is-due .result) (going (c .before .before .before .before .before .before .before .before .before .before .before .before .before .before .before .before .before .before .before .before .before .before .before .before .before .before .before .before)) (c .before .if19 .taken) ((fitted (c .before .before .before .before .before .before .before .before .before .before .before .before .before .before .before .before .before .before .before .before .before .before .before .before .before .before .before .before .before .before .before .before .before .before .before .before .before .before .before .before .before)) .head .keys) in omega (arith, h)
 
 -- src/lib.rt:227:9
 same-length-5 : tie.Need-same-length-5
@@ -499,14 +505,14 @@ same-length-5 c = search needs
 -- src/lib.rt:227:9
 returns-15 : tie.Need-returns-15
 returns-15 c =
-    let a = c .before .before .before .before .before .before .before .before .before .before .before .before .before .before .before .before .before .before .before .before .before .before .before .before .before .before .before .before .before .before .before .before .before .before .before .before .before .before .before .before .before .before .before .before .before .before .before .before .before .before .before .before .before .before .before .before .before .before .before .before .before .args in
-    full-asked (central (a .s)) (a .store .now) _ (adv (a .at) (a .channel) (a .pdu) (a .address) (a .«data» .now) (a .to-central)) (c .before .before .before .before .before .before .before .before .before .before .before .before .before .before .before .before .before .before .before .before .before .before .before .before .before .before .before .before .before .before .before .before .before .key-of .result) (c .before .before .before .before .before .before .before .before .before .before .before .before .before .before .before .before .before .before .before .before .before .before .before .before .before .before .before .before .before .is-due .result) (going (c .before .before .before .before .before .before .before .before .before .before .before .before .before .before .before .before .before .before .before .before .before .before .before .before .before .before .before .before)) (c .before .before .before .before .before .before .before .before .before .before .before .before .before .before .before .before .before .before .before .before .before .before .before .before .find .result) (c .before .before .before .before .before .before .before .before .before .before .before .before .before .before .before .before .before .before .before .before .before .before .before .before .before .before .before .narrow .result) (c .before .before .before .before .before .before .before .before .before .before .before .before .before .before .before .before .before .before .before .before .before .before .before .before .before .before .before .narrow .ensures) (c .before .before .before .before .before .before .before .before .before .before .before .before .before .before .before .before .before .before .before .before .before .before .before .before .find .ensures .0) _ _ _ _ _ _ _ (whole (c .before .before .before .before .before .before .before .before .before .before .before .before .before .before .before .before .before .before .before .before .before .before .before .before .before .before .before .before .before .before .before .before .before .before .before .before .before .before .before .before .before .before .before .before .before .before .before .before .before .before .before .before .before .before .before .before .before .before .before .before .before)) ((fitted (c .before .before .before .before .before .before .before .before .before .before .before .before .before .before .before .before .before .before .before .before .before .before .before .before .before .before .before .before .before .before .before .before .before .before .before .before .before .before .before .before)) .head .reports) (c .before .before .before .before .before .before .before .before .before .before .before .before .before .before .before .before .before .before .before .before .before .before .before .if15 .left) (c .before .before .before .before .before .before .before .before .before .before .before .before .before .before .before .before .before .before .before .before .before .before .if17 .left) (record { whoDown = c .before .before .before .before .before .before .before .before .before .before .before .before .before .before .before .before .before .before .before .before .shift-words .ensures; atDown = c .before .before .before .before .before .before .before .before .before .before .before .before .before .before .before .before .before .before .shift-words2 .ensures; channelDown = c .before .before .before .before .before .before .before .before .before .before .before .before .before .before .before .before .shift-bytes .ensures; pduDown = c .before .before .before .before .before .before .before .before .before .before .before .before .before .before .shift-bytes2 .ensures; lenDown = c .before .before .before .before .before .before .before .before .before .before .before .before .shift-bytes3 .ensures; responseDown = c .before .before .before .before .before .before .before .before .before .before .shift-bytes4 .ensures }) (c .before .before .before .before .before .before .before .before .drop-block .ensures) (c .before .before .before .before .put-data3 .ensures) (c .before .if19 .taken)
+    let a = c .before .before .before .before .before .before .before .before .before .before .before .before .before .before .before .before .before .before .before .before .before .before .before .before .before .before .before .before .before .before .before .before .before .before .before .before .before .before .before .before .before .before .before .before .before .before .before .before .before .before .before .before .before .before .before .before .before .before .before .before .before .before .args in
+    full-asked (central (a .s)) (a .store .now) _ (adv (a .at) (a .channel) (a .pdu) (a .address) (a .«data» .now) (a .to-central)) (c .before .before .before .before .before .before .before .before .before .before .before .before .before .before .before .before .before .before .before .before .before .before .before .before .before .before .before .before .before .before .before .before .before .before .key-of .result) (c .before .before .before .before .before .before .before .before .before .before .before .before .before .before .before .before .before .before .before .before .before .before .before .before .before .before .before .before .before .before .is-due .result) (going (c .before .before .before .before .before .before .before .before .before .before .before .before .before .before .before .before .before .before .before .before .before .before .before .before .before .before .before .before)) (c .before .before .before .before .before .before .before .before .before .before .before .before .before .before .before .before .before .before .before .before .before .before .before .before .find .result) (c .before .before .before .before .before .before .before .before .before .before .before .before .before .before .before .before .before .before .before .before .before .before .before .before .before .before .before .narrow .result) (c .before .before .before .before .before .before .before .before .before .before .before .before .before .before .before .before .before .before .before .before .before .before .before .before .before .before .before .narrow .ensures) (c .before .before .before .before .before .before .before .before .before .before .before .before .before .before .before .before .before .before .before .before .before .before .before .before .find .ensures .0) _ _ _ _ _ _ _ (whole (c .before .before .before .before .before .before .before .before .before .before .before .before .before .before .before .before .before .before .before .before .before .before .before .before .before .before .before .before .before .before .before .before .before .before .before .before .before .before .before .before .before .before .before .before .before .before .before .before .before .before .before .before .before .before .before .before .before .before .before .before .before .before)) ((fitted (c .before .before .before .before .before .before .before .before .before .before .before .before .before .before .before .before .before .before .before .before .before .before .before .before .before .before .before .before .before .before .before .before .before .before .before .before .before .before .before .before .before)) .head .reports) (c .before .before .before .before .before .before .before .before .before .before .before .before .before .before .before .before .before .before .before .before .before .before .before .if15 .left) (c .before .before .before .before .before .before .before .before .before .before .before .before .before .before .before .before .before .before .before .before .before .before .if17 .left) (record { whoDown = c .before .before .before .before .before .before .before .before .before .before .before .before .before .before .before .before .before .before .before .before .shift-words .ensures; atDown = c .before .before .before .before .before .before .before .before .before .before .before .before .before .before .before .before .before .before .shift-words2 .ensures; channelDown = c .before .before .before .before .before .before .before .before .before .before .before .before .before .before .before .before .shift-bytes .ensures; pduDown = c .before .before .before .before .before .before .before .before .before .before .before .before .before .before .shift-bytes2 .ensures; lenDown = c .before .before .before .before .before .before .before .before .before .before .before .before .shift-bytes3 .ensures; responseDown = c .before .before .before .before .before .before .before .before .before .before .shift-bytes4 .ensures }) (c .before .before .before .before .before .before .before .before .drop-block .ensures) (c .before .before .before .before .put-data3 .ensures) (c .before .if19 .taken)
 
 -- src/lib.rt:233:9
 choose-requires-3 : tie.Need-choose-requires-3
 choose-requires-3 c κs =
-    let a = c .before .before .before .before .before .before .before .before .before .before .before .before .before .before .before .before .before .before .before .before .before .before .before .before .before .before .before .before .before .before .before .before .before .before .before .before .before .before .before .before .before .before .before .before .before .before .before .before .before .before .before .before .before .before .before .before .before .before .before .before .before .args in
-    (again-length 63 (a .«data» .now) _ _ (c .before .before .before .before .put-data3 .ensures) (lowered-length (a .store .now) _ (c .before .before .before .before .before .before .before .before .drop-block .ensures) (short (c .before .before .before .before .before .before .before .before .before .before .before .before .before .before .before .before .before .before .before .before .before .before .before .before .before .before .before .before .before .before .before .before .before .before .before .before) .gate .store)), omega arith)
+    let a = c .before .before .before .before .before .before .before .before .before .before .before .before .before .before .before .before .before .before .before .before .before .before .before .before .before .before .before .before .before .before .before .before .before .before .before .before .before .before .before .before .before .before .before .before .before .before .before .before .before .before .before .before .before .before .before .before .before .before .before .before .before .before .args in
+    (again-length 63 (a .«data» .now) _ _ (c .before .before .before .before .put-data3 .ensures) (lowered-length (a .store .now) _ (c .before .before .before .before .before .before .before .before .drop-block .ensures) (short (c .before .before .before .before .before .before .before .before .before .before .before .before .before .before .before .before .before .before .before .before .before .before .before .before .before .before .before .before .before .before .before .before .before .before .before .before .before) .gate .store)), omega arith)
 
 -- src/lib.rt:60:1
 same-length-6 : tie.Need-same-length-6
@@ -515,8 +521,8 @@ same-length-6 c = search needs
 -- src/lib.rt:60:1
 returns-16 : tie.Need-returns-16
 returns-16 c =
-    let a = c .before .before .before .before .before .before .before .before .before .before .before .before .before .before .before .before .before .before .before .before .before .before .before .before .before .before .before .before .before .before .before .before .before .before .before .before .before .before .before .before .before .before .before .before .before .before .before .before .before .before .before .before .before .before .before .before .before .before .before .before .before .before .args in
-    full-chosen (central (a .s)) (a .store .now) _ (adv (a .at) (a .channel) (a .pdu) (a .address) (a .«data» .now) (a .to-central)) (c .before .before .before .before .before .before .before .before .before .before .before .before .before .before .before .before .before .before .before .before .before .before .before .before .before .before .before .before .before .before .before .before .before .before .key-of .result) (c .before .before .before .before .before .before .before .before .before .before .before .before .before .before .before .before .before .before .before .before .before .before .before .before .before .before .before .before .before .before .is-due .result) (going (c .before .before .before .before .before .before .before .before .before .before .before .before .before .before .before .before .before .before .before .before .before .before .before .before .before .before .before .before .before)) (c .before .before .before .before .before .before .before .before .before .before .before .before .before .before .before .before .before .before .before .before .before .before .before .before .before .find .result) (c .before .before .before .before .before .before .before .before .before .before .before .before .before .before .before .before .before .before .before .before .before .before .before .before .before .before .before .before .narrow .result) (c .before .before .before .before .before .before .before .before .before .before .before .before .before .before .before .before .before .before .before .before .before .before .before .before .before .before .before .before .narrow .ensures) (c .before .before .before .before .before .before .before .before .before .before .before .before .before .before .before .before .before .before .before .before .before .before .before .before .before .find .ensures .0) _ _ _ _ _ _ _ (whole (c .before .before .before .before .before .before .before .before .before .before .before .before .before .before .before .before .before .before .before .before .before .before .before .before .before .before .before .before .before .before .before .before .before .before .before .before .before .before .before .before .before .before .before .before .before .before .before .before .before .before .before .before .before .before .before .before .before .before .before .before .before .before)) ((fitted (c .before .before .before .before .before .before .before .before .before .before .before .before .before .before .before .before .before .before .before .before .before .before .before .before .before .before .before .before .before .before .before .before .before .before .before .before .before .before .before .before .before)) .head .reports) (c .before .before .before .before .before .before .before .before .before .before .before .before .before .before .before .before .before .before .before .before .before .before .before .before .if15 .left) (c .before .before .before .before .before .before .before .before .before .before .before .before .before .before .before .before .before .before .before .before .before .before .before .if17 .left) (record { whoDown = c .before .before .before .before .before .before .before .before .before .before .before .before .before .before .before .before .before .before .before .before .before .shift-words .ensures; atDown = c .before .before .before .before .before .before .before .before .before .before .before .before .before .before .before .before .before .before .before .shift-words2 .ensures; channelDown = c .before .before .before .before .before .before .before .before .before .before .before .before .before .before .before .before .before .shift-bytes .ensures; pduDown = c .before .before .before .before .before .before .before .before .before .before .before .before .before .before .before .shift-bytes2 .ensures; lenDown = c .before .before .before .before .before .before .before .before .before .before .before .before .before .shift-bytes3 .ensures; responseDown = c .before .before .before .before .before .before .before .before .before .before .before .shift-bytes4 .ensures }) (c .before .before .before .before .before .before .before .before .before .drop-block .ensures) (c .before .before .before .before .before .put-data3 .ensures) _ (c .before .before .if19 .left) (c .choose3 .ensures)
+    let a = c .before .before .before .before .before .before .before .before .before .before .before .before .before .before .before .before .before .before .before .before .before .before .before .before .before .before .before .before .before .before .before .before .before .before .before .before .before .before .before .before .before .before .before .before .before .before .before .before .before .before .before .before .before .before .before .before .before .before .before .before .before .before .before .args in
+    full-chosen (central (a .s)) (a .store .now) _ (adv (a .at) (a .channel) (a .pdu) (a .address) (a .«data» .now) (a .to-central)) (c .before .before .before .before .before .before .before .before .before .before .before .before .before .before .before .before .before .before .before .before .before .before .before .before .before .before .before .before .before .before .before .before .before .before .before .key-of .result) (c .before .before .before .before .before .before .before .before .before .before .before .before .before .before .before .before .before .before .before .before .before .before .before .before .before .before .before .before .before .before .before .is-due .result) (going (c .before .before .before .before .before .before .before .before .before .before .before .before .before .before .before .before .before .before .before .before .before .before .before .before .before .before .before .before .before)) (c .before .before .before .before .before .before .before .before .before .before .before .before .before .before .before .before .before .before .before .before .before .before .before .before .before .find .result) (c .before .before .before .before .before .before .before .before .before .before .before .before .before .before .before .before .before .before .before .before .before .before .before .before .before .before .before .before .narrow .result) (c .before .before .before .before .before .before .before .before .before .before .before .before .before .before .before .before .before .before .before .before .before .before .before .before .before .before .before .before .narrow .ensures) (c .before .before .before .before .before .before .before .before .before .before .before .before .before .before .before .before .before .before .before .before .before .before .before .before .before .find .ensures .0) _ _ _ _ _ _ _ (whole (c .before .before .before .before .before .before .before .before .before .before .before .before .before .before .before .before .before .before .before .before .before .before .before .before .before .before .before .before .before .before .before .before .before .before .before .before .before .before .before .before .before .before .before .before .before .before .before .before .before .before .before .before .before .before .before .before .before .before .before .before .before .before .before)) ((fitted (c .before .before .before .before .before .before .before .before .before .before .before .before .before .before .before .before .before .before .before .before .before .before .before .before .before .before .before .before .before .before .before .before .before .before .before .before .before .before .before .before .before .before)) .head .reports) (c .before .before .before .before .before .before .before .before .before .before .before .before .before .before .before .before .before .before .before .before .before .before .before .before .if15 .left) (c .before .before .before .before .before .before .before .before .before .before .before .before .before .before .before .before .before .before .before .before .before .before .before .if17 .left) (record { whoDown = c .before .before .before .before .before .before .before .before .before .before .before .before .before .before .before .before .before .before .before .before .before .shift-words .ensures; atDown = c .before .before .before .before .before .before .before .before .before .before .before .before .before .before .before .before .before .before .before .shift-words2 .ensures; channelDown = c .before .before .before .before .before .before .before .before .before .before .before .before .before .before .before .before .before .shift-bytes .ensures; pduDown = c .before .before .before .before .before .before .before .before .before .before .before .before .before .before .before .shift-bytes2 .ensures; lenDown = c .before .before .before .before .before .before .before .before .before .before .before .before .before .shift-bytes3 .ensures; responseDown = c .before .before .before .before .before .before .before .before .before .before .before .shift-bytes4 .ensures }) (c .before .before .before .before .before .before .before .before .before .drop-block .ensures) (c .before .before .before .before .before .put-data3 .ensures) _ (c .before .before .if19 .left) (c .choose3 .ensures)
 
 pub on-advertising-spec : {M : Type 1} → statement M
 on-advertising-spec =
@@ -554,6 +560,7 @@ on-advertising-spec =
     key-of-requires
     is-asking-requires
     is-due-requires
+    keys-full-requires
     unchanged-requires-10
     returns-10
     narrow-requires

@@ -1,4 +1,4 @@
-use Rattle.radio.specs.RadioLaws.{response-refused, response-passed, response-none, response-taken}
+use Rattle.scan_responses.specs.ResponseLaws.{response-refused, response-passed, response-none, response-taken}
 use Rattle.state.specs.declared.Reports.{Reports}
 use Rattle.state.specs.Central.{central}
 use borrow.Author.Needs.{length-unmapped}
@@ -7,13 +7,13 @@ use native.Mathlib.Omega.{arith}
 use mathlib.Core.Path.{_≡_, ap, _∙_}
 use Prim.Native.Nat.{ℕ, _<_}
 use borrow.Author.Needs.{needs}
-use Rattle.radio.proofs.on_scan_response.Statement.{statement}
-use Rattle.radio.proofs.on_scan_response.Tie as tie
-use Rattle.radio.proofs.on_scan_response.Reads as reads
-use Rattle.radio.proofs.on_scan_response.Lts as lts
+use Rattle.scan_responses.proofs.on_scan_response.Statement.{statement}
+use Rattle.scan_responses.proofs.on_scan_response.Tie as tie
+use Rattle.scan_responses.proofs.on_scan_response.Reads as reads
+use Rattle.scan_responses.proofs.on_scan_response.Lts as lts
 use Rattle.fit.proofs.gate_quiet.Reads as gate-quiet-reads
-use Rattle.radio.proofs.narrow.Reads as narrow-reads
-use Rattle.radio.proofs.then_data.Reads as then-data-reads
+use Rattle.hearing.proofs.narrow.Reads as narrow-reads
+use Rattle.hearing.proofs.then_data.Reads as then-data-reads
 use Rattle.reports.proofs.find.Reads as find-reads
 use Rattle.reports.proofs.key_of.Reads as key-of-reads
 use Rattle.reports.proofs.put_response.Reads as put-response-reads

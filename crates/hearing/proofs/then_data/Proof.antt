@@ -1,10 +1,10 @@
-use Rattle.radio.specs.Radio.{thenData}
+use Rattle.hearing.specs.Hearing.{thenData}
 use Rattle.places.specs.Sizes.{dataSize}
 use borrow.Author.Tests.{eq-eqb, ne-eqb, le-leb, lt-leb}
-use Rattle.radio.proofs.then_data.Statement.{statement}
-use Rattle.radio.proofs.then_data.Tie as tie
-use Rattle.radio.proofs.then_data.Reads as reads
-use Rattle.radio.proofs.then_data.Lts as lts
+use Rattle.hearing.proofs.then_data.Statement.{statement}
+use Rattle.hearing.proofs.then_data.Tie as tie
+use Rattle.hearing.proofs.then_data.Reads as reads
+use Rattle.hearing.proofs.then_data.Lts as lts
 
 -- src/lib.rt:34:9
 returns : tie.Need-returns

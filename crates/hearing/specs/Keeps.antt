@@ -1,6 +1,6 @@
--- Fit goes to fit; the arrays and the store keep their sizes; and a contract leaves no second outcome.
+-- Fit goes to fit; the arrays and the store keep their sizes.
 use Prim.Native.Nat.{ℕ, zero, suc, _+_, _≤_, _<_, min}
-use mathlib.Core.Path.{_≡_, refl, sym, ap, _∙_}
+use mathlib.Core.Path.{_≡_, refl, ap, _∙_}
 use mathlib.Core.Bool.{Bool, true, false, not, _&&_}
 use mathlib.Core.List.{List, [], _∷_}
 use native.Mathlib.Omega.{arith}
@@ -16,7 +16,7 @@ use Rattle.queues.specs.QueueLaws.{length-pushed, pushed-within, take-onto, len
 use Rattle.queues.specs.ScanLaws.{all-head, all-tail, all-cons}
 use Rattle.queues.specs.BlockLaws.{length-stored}
 use Rattle.time.specs.declared.Micros.{Micros}
-use Rattle.state.specs.Central.{Central, laid, withReports, withKeys}
+use Rattle.state.specs.Central.{Central, withReports, withKeys}
 use Rattle.state.specs.declared.Address.{Address}
 use Rattle.state.specs.declared.Reports.{Reports}
 use Rattle.fit.specs.Fit.{fits, lengthsFit, dataLengths, responseLengths}
@@ -27,10 +27,8 @@ use Rattle.reports.specs.Reports.{reportPart, noResponse, Line, heardAgain, aga
 use Rattle.reports.specs.ReportLaws.{Whole}
 use Rattle.reports.specs.Key.{key}
 use Rattle.matching.specs.Matching.{listens}
-use Rattle.radio.specs.declared.Advertised.{Advertised}
-use Rattle.radio.specs.declared.Responded.{Responded}
-use Rattle.radio.specs.Radio.{Outcome, outcome, taken, unchanged, thenData, Adv, line, due, refusal, requested, weighed, acted, heard, advertised, responseRefusal, answered, scanResponded}
-use Rattle.radio.specs.RadioLaws.{Passed, passed}
+use Rattle.hearing.specs.Hearing.{Outcome, unchanged, thenData, Adv, line, due, refusal, requested, weighed, acted, heard, advertised, responseRefusal, answered, scanResponded}
+use Rattle.hearing.specs.HearingLaws.{Passed, passed}
 
 -- ---- lengths in an array
 
@@ -195,19 +193,3 @@ module _ (c : Central) (s : List ℕ) (f : Fit c) (w : Whole (c .reports)) (l : 
           record { fit = with-kept c (responded (c .reports) i (at .0) (length d)) f k; whole = k .whole; keys = l; store = length-splice s (responseAt i) d 0 (length d) }
       go i true e false = record { fit = f; whole = w; keys = l; store = refl }
       go i false e k = record { fit = f; whole = w; keys = l; store = refl }
-
--- ---- the contracts leave no second outcome
-
-advertisedOf : Outcome → Advertised
-advertisedOf x = record { state = laid (x .state); refusal = x .refusal; action = x .action }
-
-pub one-advertised : (a b : Advertised) (s t : List ℕ) (x : Outcome) → outcome a s ≡ x → outcome b t ≡ x → (a ≡ b) × (s ≡ t)
-unfolding advertisedOf
-one-advertised a b s t x e f = (ap advertisedOf (e ∙ sym f), ap (λ (y : Outcome). y .store) (e ∙ sym f))
-
-respondedOf : Outcome → Responded
-respondedOf x = record { state = laid (x .state); refusal = x .refusal }
-
-pub one-responded : (a b : Responded) (s t : List ℕ) (x : Outcome) → taken a s ≡ x → taken b t ≡ x → (a ≡ b) × (s ≡ t)
-unfolding respondedOf
-one-responded a b s t x e f = (ap respondedOf (e ∙ sym f), ap (λ (y : Outcome). y .store) (e ∙ sym f))
