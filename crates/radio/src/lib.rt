@@ -16,8 +16,6 @@ pub struct Advertised {
     pub action: AdvAction,
 }
 
-const LAST: usize = places::MAX_REPORTS - 1;
-
 fn unchanged(state: State, refusal: u8) -> Advertised
     ensures { λ r. ⌜ r ≡ record { state = state; refusal = refusal; action = AdvAction.Nothing } ⌝ }
 {
@@ -51,44 +49,32 @@ pub fn on_advertising(
     if !fit::head_fit(n, counters, bearer, running, count, asked) {
         return unchanged(s, refusal::UNFIT);
     }
-    if !fit::lengths_fit(&h.len, count, fit::MAX_LENGTH) {
-        return unchanged(s, refusal::UNFIT);
-    }
-    if !fit::lengths_fit(&h.response, count, fit::NO_RESPONSE) {
-        return unchanged(s, refusal::UNFIT);
-    }
+    let mut fits = fit::lengths_fit(&h.len, count, fit::MAX_LENGTH)
+        & fit::lengths_fit(&h.response, count, fit::NO_RESPONSE);
     let waiting = n.waiting;
     if 0 < waiting {
         let w = s.waiting;
-        if !fit::steps_fit(w, waiting) {
-            return unchanged(s, refusal::UNFIT);
-        }
+        fits = fits & fit::steps_fit(w, waiting);
     }
     let results = n.results;
     if 0 < results {
         let w = s.results;
-        if !fit::results_fit(w, results) {
-            return unchanged(s, refusal::UNFIT);
-        }
+        fits = fits & fit::results_fit(w, results);
     }
     let characteristics = n.characteristics;
     if 0 < characteristics {
         let w = s.characteristics;
-        if !characteristics::is_rising(w, characteristics) {
-            return unchanged(s, refusal::UNFIT);
-        }
+        fits = fits & characteristics::is_rising(w, characteristics);
     }
     let notifications = n.notifications;
     if 0 < notifications {
         let w = s.notifications;
-        if !waits::values_fit(w, notifications) {
-            return unchanged(s, refusal::UNFIT);
-        }
+        fits = fits & waits::values_fit(w, notifications);
     }
     let size = data.len();
     let late = time::too_late(at);
     let why = hearing::then_data(
-        fit::first_refusal(true, store.len() == places::STORE_SIZE, !late),
+        fit::first_refusal(fits, store.len() == places::STORE_SIZE, !late),
         size,
     );
     if why != refusal::ACCEPTED {
@@ -104,93 +90,20 @@ pub fn on_advertising(
     if hearing::keys_full(new, asked) {
         return unchanged(s, refusal::KEYS_FULL);
     }
-    let len = hearing::narrow(size);
-    let step = running.step;
     let mut who = s.who;
     let i = reports::find(&who, count, key);
-    if i < count {
-        h.at[i] = at.0;
-        h.channel[i] = channel;
-        h.pdu[i] = pdu;
-        h.len[i] = len;
-        reports::put_data(store, i, data);
-        let mut o = s;
-        o.heard = h;
-        if new {
-            let mut more = s.keys;
-            more[asked] = key;
-            o.keys = more;
-            o.key_count = asked + 1;
-            return Advertised {
-                state: o,
-                refusal: refusal::ACCEPTED,
-                action: AdvAction::ScanRequest,
-            };
-        }
-        let response = h.response[i];
-        let action = matching::choose(step, key, store, i, response, data, pdu, to_central);
-        return Advertised {
-            state: o,
-            refusal: refusal::ACCEPTED,
-            action,
-        };
-    }
-    if count < places::MAX_REPORTS {
-        who[count] = key;
-        h.at[count] = at.0;
-        h.channel[count] = channel;
-        h.pdu[count] = pdu;
-        h.len[count] = len;
-        h.response[count] = fit::NO_RESPONSE;
-        reports::put_data(store, count, data);
-        let mut o = s;
-        o.who = who;
-        o.heard = h;
-        o.reports = count + 1;
-        if new {
-            let mut more = s.keys;
-            more[asked] = key;
-            o.keys = more;
-            o.key_count = asked + 1;
-            return Advertised {
-                state: o,
-                refusal: refusal::ACCEPTED,
-                action: AdvAction::ScanRequest,
-            };
-        }
-        let action = matching::choose(
-            step,
-            key,
-            store,
-            count,
-            fit::NO_RESPONSE,
-            data,
-            pdu,
-            to_central,
-        );
-        return Advertised {
-            state: o,
-            refusal: refusal::ACCEPTED,
-            action,
-        };
-    }
-    reports::shift_words(&mut who);
-    reports::shift_words(&mut h.at);
-    reports::shift_bytes(&mut h.channel);
-    reports::shift_bytes(&mut h.pdu);
-    reports::shift_bytes(&mut h.len);
-    reports::shift_bytes(&mut h.response);
-    who[LAST] = key;
-    h.at[LAST] = at.0;
-    h.channel[LAST] = channel;
-    h.pdu[LAST] = pdu;
-    h.len[LAST] = len;
-    h.response[LAST] = fit::NO_RESPONSE;
-    reports::drop_block(store);
-    reports::put_data(store, LAST, data);
+    let response = report_tables::kept_response(&h.response, count, i);
+    report_tables::put_word(&mut who, i, key);
+    report_tables::put_word(&mut h.at, i, at.0);
+    report_tables::put_byte(&mut h.channel, i, channel);
+    report_tables::put_byte(&mut h.pdu, i, pdu);
+    report_tables::put_byte(&mut h.len, i, hearing::narrow(size));
+    report_tables::put_byte(&mut h.response, i, response);
+    report_tables::put_block(store, i, data);
     let mut o = s;
     o.who = who;
     o.heard = h;
+    o.reports = report_tables::counted(count, i);
     if new {
         let mut more = s.keys;
         more[asked] = key;
@@ -202,16 +115,9 @@ pub fn on_advertising(
             action: AdvAction::ScanRequest,
         };
     }
-    let action = matching::choose(
-        step,
-        key,
-        store,
-        LAST,
-        fit::NO_RESPONSE,
-        data,
-        pdu,
-        to_central,
-    );
+    let place = report_tables::last_place(i);
+    let step = running.step;
+    let action = matching::choose(step, key, store, place, response, data, pdu, to_central);
     Advertised {
         state: o,
         refusal: refusal::ACCEPTED,

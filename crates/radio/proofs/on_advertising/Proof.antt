@@ -1,9 +1,9 @@
-use Rattle.radio.specs.RadioLaws.{Going, told, unfit-law, refused-law, open-law, quiet-law, full-law, key-place, known-asked, known-chosen, room-asked, room-chosen, full-asked, full-chosen, again-length, lowered-length}
+use Rattle.radio.specs.RadioLaws.{Going, told, unfit-law, looked, empty, fits-law, refused-law, open-law, quiet-law, full-law, key-place, put-asked, put-chosen, block-length}
 use Rattle.hearing.specs.HearingLaws.{Passed, passed}
 use Rattle.hearing.specs.Hearing.{thenData, adv}
 use Rattle.reports.specs.ReportLaws.{Whole}
-use Rattle.fit.specs.FitLaws.{head-of, head-in, fit-of, of-fit, all-fit, unfit, steps-none, results-none, rising-none, values-none}
-use Rattle.fit.specs.Facts.{Fit}
+use Rattle.fit.specs.FitLaws.{head-of, head-in, unfit, steps-none, results-none, rising-none, values-none}
+use Rattle.fit.specs.Fit.{fits}
 use Rattle.fit.specs.Gate.{gateQuiet}
 use Rattle.state.specs.Central.{central}
 use borrow.Author.Tests.{not-true, not-false}
@@ -12,6 +12,7 @@ use lib.ListN.{length}
 use native.Mathlib.Omega.{arith}
 use mathlib.Core.Logic.{⊎-elim}
 use mathlib.Core.Path.{_≡_, sym, _∙_}
+use mathlib.Core.Bool.{_&&_}
 use Prim.Native.Nat.{ℕ, _<_}
 use borrow.Author.Needs.{needs}
 use Rattle.radio.proofs.on_advertising.Statement.{statement}
@@ -24,20 +25,22 @@ use Rattle.fit.proofs.head_fit.Reads as head-fit-reads
 use Rattle.fit.proofs.lengths_fit.Reads as lengths-fit-reads
 use Rattle.fit.proofs.results_fit.Reads as results-fit-reads
 use Rattle.fit.proofs.steps_fit.Reads as steps-fit-reads
-use Rattle.matching.proofs.choose.Reads as choose-reads
-use Rattle.matching.proofs.is_asking.Reads as is-asking-reads
-use Rattle.matching.proofs.is_listening.Reads as is-listening-reads
 use Rattle.hearing.proofs.keys_full.Reads as keys-full-reads
 use Rattle.hearing.proofs.narrow.Reads as narrow-reads
 use Rattle.hearing.proofs.then_data.Reads as then-data-reads
+use Rattle.matching.proofs.choose.Reads as choose-reads
+use Rattle.matching.proofs.is_asking.Reads as is-asking-reads
+use Rattle.matching.proofs.is_listening.Reads as is-listening-reads
 use Rattle.radio.proofs.unchanged.Reads as unchanged-reads
-use Rattle.reports.proofs.drop_block.Reads as drop-block-reads
+use Rattle.report_tables.proofs.counted.Reads as counted-reads
+use Rattle.report_tables.proofs.kept_response.Reads as kept-response-reads
+use Rattle.report_tables.proofs.last_place.Reads as last-place-reads
+use Rattle.report_tables.proofs.put_block.Reads as put-block-reads
+use Rattle.report_tables.proofs.put_byte.Reads as put-byte-reads
+use Rattle.report_tables.proofs.put_word.Reads as put-word-reads
 use Rattle.reports.proofs.find.Reads as find-reads
 use Rattle.reports.proofs.is_due.Reads as is-due-reads
 use Rattle.reports.proofs.key_of.Reads as key-of-reads
-use Rattle.reports.proofs.put_data.Reads as put-data-reads
-use Rattle.reports.proofs.shift_bytes.Reads as shift-bytes-reads
-use Rattle.reports.proofs.shift_words.Reads as shift-words-reads
 use Rattle.time.proofs.too_late.Reads as too-late-reads
 use Rattle.waits.proofs.values_fit.Reads as values-fit-reads
 
@@ -55,474 +58,236 @@ whole c =
     }
 
 -- after the tests of fit
-fitted : (c : tie.Joined10) → Fit (central (c .before .before .before .before .before .before .before .before .before .before .before .before .before .before .before .before .before .before .before .before .before .args .s))
-fitted c =
-    let s = c .before .before .before .before .before .before .before .before .before .before .before .before .before .before .before .before .before .before .before .before .before .args .s in
-    fit-of (central s)
-    (all-fit s (sym (c .before .before .before .before .before .before .before .before .before .before .before .before .before .head-fit .ensures) ∙ not-false _ (c .before .before .before .before .before .before .before .before .before .before .before .before .if1 .left))
-    (sym (c .before .before .before .before .before .before .before .before .before .lengths-fit .ensures) ∙ not-false _ (c .before .before .before .before .before .before .before .before .if2 .left))
-    (sym (c .before .before .before .before .before .lengths-fit2 .ensures) ∙ not-false _ (c .before .before .before .before .if3 .left))
-    (⊎-elim (λ w. sym (w .2 .ensures) ∙ not-false _ (w .3 .left)) (λ w. steps-none s (w .left)) (c .before .before .before .if4 .came))
-    (⊎-elim (λ w. sym (w .2 .ensures) ∙ not-false _ (w .3 .left)) (λ w. results-none s (w .left)) (c .before .before .if6 .came))
-    (⊎-elim (λ w. sym (w .2 .ensures) ∙ not-false _ (w .3 .left)) (λ w. rising-none s (w .left)) (c .before .if8 .came))
-    (⊎-elim (λ w. sym (w .2 .ensures) ∙ not-false _ (w .3 .left)) (λ w. values-none s (w .left)) (c .if10 .came)))
+flag : (c : tie.Joined5) → c .if5 .fits ≡ fits (central (c .before .before .before .before .before .before .before .before .before .before .before .before .before .before .before .before .before .before .before .args .s))
+flag c =
+    let s = c .before .before .before .before .before .before .before .before .before .before .before .before .before .before .before .before .before .before .before .args .s in
+    fits-law s (c .before .before .before .before .before .before .before .lengths-fit .result) (c .before .before .before .before .lengths-fit2 .result) (c .before .before .before .if2 .fits) (c .before .before .if3 .fits) (c .before .if4 .fits) (c .if5 .fits)
+    (sym (c .before .before .before .before .before .before .before .before .before .before .before .head-fit .ensures) ∙ not-false _ (c .before .before .before .before .before .before .before .before .before .before .if1 .left))
+    (c .before .before .before .before .before .before .before .lengths-fit .ensures)
+    (c .before .before .before .before .lengths-fit2 .ensures)
+    (⊎-elim (λ w. looked (c .before .before .before .before .before .before .before .lengths-fit .result && c .before .before .before .before .lengths-fit2 .result) _ _ _ (w .3) (w .2 .ensures)) (λ w. empty (c .before .before .before .before .before .before .before .lengths-fit .result && c .before .before .before .before .lengths-fit2 .result) _ _ (w .1) (steps-none s (w .0 .left))) (c .before .before .before .if2 .came))
+    (⊎-elim (λ w. looked (c .before .before .before .if2 .fits) _ _ _ (w .3) (w .2 .ensures)) (λ w. empty (c .before .before .before .if2 .fits) _ _ (w .1) (results-none s (w .0 .left))) (c .before .before .if3 .came))
+    (⊎-elim (λ w. looked (c .before .before .if3 .fits) _ _ _ (w .3) (w .2 .ensures)) (λ w. empty (c .before .before .if3 .fits) _ _ (w .1) (rising-none s (w .0 .left))) (c .before .if4 .came))
+    (⊎-elim (λ w. looked (c .before .if4 .fits) _ _ _ (w .3) (w .2 .ensures)) (λ w. empty (c .before .if4 .fits) _ _ (w .1) (values-none s (w .0 .left))) (c .if5 .came))
 
 -- after refusals 1, 2, 3 and 6
-clear : (c : tie.Else12) → let a = c .before .before .before .before .before .before .before .before .before .before .before .before .before .before .before .before .before .before .before .before .before .before .before .before .before .args in thenData (gateQuiet (central (a .s)) (length (a .store .now)) (a .at)) (length (a .«data» .now)) ≡ 0
+clear : (c : tie.Else6) → let a = c .before .before .before .before .before .before .before .before .before .before .before .before .before .before .before .before .before .before .before .before .before .before .before .args in thenData (gateQuiet (central (a .s)) (length (a .store .now)) (a .at)) (length (a .«data» .now)) ≡ 0
 clear c =
-    let a = c .before .before .before .before .before .before .before .before .before .before .before .before .before .before .before .before .before .before .before .before .before .before .before .before .before .args in
-    open-law (central (a .s)) (a .store .now) (adv (a .at) (a .channel) (a .pdu) (a .address) (a .«data» .now) (a .to-central)) (c .before .before .first-refusal .result) (c .before .then-data .result) (c .before .before .before .too-late .result) (of-fit (central (a .s)) (fitted (c .before .before .before .before))) (c .before .before .before .too-late .ensures) (c .before .before .first-refusal .ensures) (c .before .then-data .ensures) (c .if12 .left)
+    let a = c .before .before .before .before .before .before .before .before .before .before .before .before .before .before .before .before .before .before .before .before .before .before .before .args in
+    open-law (central (a .s)) (a .store .now) (adv (a .at) (a .channel) (a .pdu) (a .address) (a .«data» .now) (a .to-central)) (c .before .before .first-refusal .result) (c .before .then-data .result) (c .before .before .before .too-late .result) (c .before .before .before .before .if5 .fits) (flag (c .before .before .before .before)) (c .before .before .before .too-late .ensures) (c .before .before .first-refusal .ensures) (c .before .then-data .ensures) (c .if6 .left)
 
-short : (c : tie.Else12) → let a = c .before .before .before .before .before .before .before .before .before .before .before .before .before .before .before .before .before .before .before .before .before .before .before .before .before .args in Passed (central (a .s)) (length (a .store .now)) (a .at) (length (a .«data» .now))
+short : (c : tie.Else6) → let a = c .before .before .before .before .before .before .before .before .before .before .before .before .before .before .before .before .before .before .before .before .before .before .before .args in Passed (central (a .s)) (length (a .store .now)) (a .at) (length (a .«data» .now))
 short c =
-    let a = c .before .before .before .before .before .before .before .before .before .before .before .before .before .before .before .before .before .before .before .before .before .before .before .before .before .args in
+    let a = c .before .before .before .before .before .before .before .before .before .before .before .before .before .before .before .before .before .before .before .before .before .before .before .args in
     passed (central (a .s)) (length (a .store .now)) (a .at) (length (a .«data» .now)) (clear c)
 
 -- after refusal 8
-going : (c : tie.Else14) → let a = c .before .before .before .before .before .before .before .before .before .before .before .before .before .before .before .before .before .before .before .before .before .before .before .before .before .before .before .before .before .before .before .before .before .before .args in Going (central (a .s)) (a .store .now) (adv (a .at) (a .channel) (a .pdu) (a .address) (a .«data» .now) (a .to-central)) (c .before .before .before .before .before .before .key-of .result) (c .before .before .is-due .result)
+going : (c : tie.Else8) → let a = c .before .before .before .before .before .before .before .before .before .before .before .before .before .before .before .before .before .before .before .before .before .before .before .before .before .before .before .before .before .before .before .before .args in Going (central (a .s)) (a .store .now) (adv (a .at) (a .channel) (a .pdu) (a .address) (a .«data» .now) (a .to-central)) (c .before .before .before .before .before .before .key-of .result) (c .before .before .is-due .result)
 going c =
-    let a = c .before .before .before .before .before .before .before .before .before .before .before .before .before .before .before .before .before .before .before .before .before .before .before .before .before .before .before .before .before .before .before .before .before .before .args in
     record {
       clear = clear (c .before .before .before .before .before .before .before .before .before);
-      listening = sym (c .before .before .before .before .before .before .before .before .is-listening .ensures) ∙ not-false _ (c .before .before .before .before .before .before .before .if13 .left);
+      listening = sym (c .before .before .before .before .before .before .before .before .is-listening .ensures) ∙ not-false _ (c .before .before .before .before .before .before .before .if7 .left);
       keyed = c .before .before .before .before .before .before .key-of .ensures;
       news = (c .before .before .is-due .ensures ∙ rw (c .before .before .before .before .is-asking .ensures, c .before .before .before .before .before .before .key-of .ensures));
-      room = sym (c .before .keys-full .ensures) ∙ c .if14 .left;
+      room = sym (c .before .keys-full .ensures) ∙ c .if8 .left;
     }
 
--- src/lib.rt:79:9
+-- src/lib.rt:49:9
 head-fit-requires : tie.Need-head-fit-requires
 head-fit-requires c κs = search needs
 
--- src/lib.rt:80:9
+-- src/lib.rt:50:9
 unchanged-requires : tie.Need-unchanged-requires
 unchanged-requires c κs = search needs
 
--- src/lib.rt:80:9
+-- src/lib.rt:50:9
 returns : tie.Need-returns
 returns c =
     let a = c .before .before .before .before .before .before .before .before .before .before .args in
     told (a .s) (c .unchanged .result) 1 (a .store .now) _ (c .unchanged .ensures) (unfit-law (central (a .s)) (a .store .now) (adv (a .at) (a .channel) (a .pdu) (a .address) (a .«data» .now) (a .to-central)) (unfit (central (a .s)) _ (head-in (a .s)) (sym (c .before .before .head-fit .ensures) ∙ not-true _ (c .before .if1 .taken))))
 
--- src/lib.rt:82:9
+-- src/lib.rt:52:20
 lengths-fit-requires : tie.Need-lengths-fit-requires
 lengths-fit-requires c κs = ((head-of _ _ _ _ _ _ (sym (c .before .before .before .head-fit .ensures) ∙ not-false _ (c .before .before .if1 .left))) .reports, whole (c .before .before .before .before .before .before .before .before .before .before .before) .len)
 
--- src/lib.rt:83:9
-unchanged-requires-2 : tie.Need-unchanged-requires-2
-unchanged-requires-2 c κs = search needs
-
--- src/lib.rt:83:9
-returns-2 : tie.Need-returns-2
-returns-2 c =
-    let a = c .before .before .before .before .before .before .before .before .before .before .before .before .before .before .args in
-    told (a .s) (c .unchanged2 .result) 1 (a .store .now) _ (c .unchanged2 .ensures) (unfit-law (central (a .s)) (a .store .now) (adv (a .at) (a .channel) (a .pdu) (a .address) (a .«data» .now) (a .to-central)) (unfit (central (a .s)) _ (λ f. f .lengths) (sym (c .before .before .lengths-fit .ensures) ∙ not-true _ (c .before .if2 .taken))))
-
--- src/lib.rt:85:9
+-- src/lib.rt:53:11
 lengths-fit-requires-2 : tie.Need-lengths-fit-requires-2
-lengths-fit-requires-2 c κs = ((head-of _ _ _ _ _ _ (sym (c .before .before .before .before .before .before .before .head-fit .ensures) ∙ not-false _ (c .before .before .before .before .before .before .if1 .left))) .reports, whole (c .before .before .before .before .before .before .before .before .before .before .before .before .before .before .before) .response)
+lengths-fit-requires-2 c κs = ((head-of _ _ _ _ _ _ (sym (c .before .before .before .before .before .before .head-fit .ensures) ∙ not-false _ (c .before .before .before .before .before .if1 .left))) .reports, whole (c .before .before .before .before .before .before .before .before .before .before .before .before .before .before) .response)
 
--- src/lib.rt:86:9
-unchanged-requires-3 : tie.Need-unchanged-requires-3
-unchanged-requires-3 c κs = search needs
-
--- src/lib.rt:86:9
-returns-3 : tie.Need-returns-3
-returns-3 c =
-    let a = c .before .before .before .before .before .before .before .before .before .before .before .before .before .before .before .before .before .before .args in
-    told (a .s) (c .unchanged3 .result) 1 (a .store .now) _ (c .unchanged3 .ensures) (unfit-law (central (a .s)) (a .store .now) (adv (a .at) (a .channel) (a .pdu) (a .address) (a .«data» .now) (a .to-central)) (unfit (central (a .s)) _ (λ f. f .responses) (sym (c .before .before .lengths-fit2 .ensures) ∙ not-true _ (c .before .if3 .taken))))
-
--- src/lib.rt:91:13
+-- src/lib.rt:57:23
 steps-fit-requires : tie.Need-steps-fit-requires
-steps-fit-requires c κs = (head-of _ _ _ _ _ _ (sym (c .before .before .before .before .before .before .before .before .before .before .before .head-fit .ensures) ∙ not-false _ (c .before .before .before .before .before .before .before .before .before .before .if1 .left))) .waiting
+steps-fit-requires c κs = (head-of _ _ _ _ _ _ (sym (c .before .before .before .before .before .before .before .before .before .head-fit .ensures) ∙ not-false _ (c .before .before .before .before .before .before .before .before .if1 .left))) .waiting
 
--- src/lib.rt:92:13
-unchanged-requires-4 : tie.Need-unchanged-requires-4
-unchanged-requires-4 c κs = search needs
-
--- src/lib.rt:92:13
-returns-4 : tie.Need-returns-4
-returns-4 c =
-    let a = c .before .before .before .before .before .before .before .before .before .before .before .before .before .before .before .before .before .before .before .before .before .before .args in
-    told (a .s) (c .unchanged4 .result) 1 (a .store .now) _ (c .unchanged4 .ensures) (unfit-law (central (a .s)) (a .store .now) (adv (a .at) (a .channel) (a .pdu) (a .address) (a .«data» .now) (a .to-central)) (unfit (central (a .s)) _ (λ f. f .steps) (sym (c .before .before .steps-fit .ensures) ∙ not-true _ (c .before .if5 .taken))))
-
--- src/lib.rt:98:13
+-- src/lib.rt:62:23
 results-fit-requires : tie.Need-results-fit-requires
-results-fit-requires c κs = (head-of _ _ _ _ _ _ (sym (c .before .before .before .before .before .before .before .before .before .before .before .before .head-fit .ensures) ∙ not-false _ (c .before .before .before .before .before .before .before .before .before .before .before .if1 .left))) .results
+results-fit-requires c κs = (head-of _ _ _ _ _ _ (sym (c .before .before .before .before .before .before .before .before .before .before .head-fit .ensures) ∙ not-false _ (c .before .before .before .before .before .before .before .before .before .if1 .left))) .results
 
--- src/lib.rt:99:13
-unchanged-requires-5 : tie.Need-unchanged-requires-5
-unchanged-requires-5 c κs = search needs
-
--- src/lib.rt:99:13
-returns-5 : tie.Need-returns-5
-returns-5 c =
-    let a = c .before .before .before .before .before .before .before .before .before .before .before .before .before .before .before .before .before .before .before .before .before .before .before .args in
-    told (a .s) (c .unchanged5 .result) 1 (a .store .now) _ (c .unchanged5 .ensures) (unfit-law (central (a .s)) (a .store .now) (adv (a .at) (a .channel) (a .pdu) (a .address) (a .«data» .now) (a .to-central)) (unfit (central (a .s)) _ (λ f. f .results) (sym (c .before .before .results-fit .ensures) ∙ not-true _ (c .before .if7 .taken))))
-
--- src/lib.rt:105:13
+-- src/lib.rt:67:23
 is-rising-requires : tie.Need-is-rising-requires
-is-rising-requires c κs = (head-of _ _ _ _ _ _ (sym (c .before .before .before .before .before .before .before .before .before .before .before .before .before .head-fit .ensures) ∙ not-false _ (c .before .before .before .before .before .before .before .before .before .before .before .before .if1 .left))) .characteristics
+is-rising-requires c κs = (head-of _ _ _ _ _ _ (sym (c .before .before .before .before .before .before .before .before .before .before .before .head-fit .ensures) ∙ not-false _ (c .before .before .before .before .before .before .before .before .before .before .if1 .left))) .characteristics
 
--- src/lib.rt:106:13
-unchanged-requires-6 : tie.Need-unchanged-requires-6
-unchanged-requires-6 c κs = search needs
-
--- src/lib.rt:106:13
-returns-6 : tie.Need-returns-6
-returns-6 c =
-    let a = c .before .before .before .before .before .before .before .before .before .before .before .before .before .before .before .before .before .before .before .before .before .before .before .before .args in
-    told (a .s) (c .unchanged6 .result) 1 (a .store .now) _ (c .unchanged6 .ensures) (unfit-law (central (a .s)) (a .store .now) (adv (a .at) (a .channel) (a .pdu) (a .address) (a .«data» .now) (a .to-central)) (unfit (central (a .s)) _ (λ f. f .rising) (sym (c .before .before .is-rising .ensures) ∙ not-true _ (c .before .if9 .taken))))
-
--- src/lib.rt:112:13
+-- src/lib.rt:72:23
 values-fit-requires : tie.Need-values-fit-requires
-values-fit-requires c κs = (head-of _ _ _ _ _ _ (sym (c .before .before .before .before .before .before .before .before .before .before .before .before .before .before .head-fit .ensures) ∙ not-false _ (c .before .before .before .before .before .before .before .before .before .before .before .before .before .if1 .left))) .notifications
+values-fit-requires c κs = (head-of _ _ _ _ _ _ (sym (c .before .before .before .before .before .before .before .before .before .before .before .before .head-fit .ensures) ∙ not-false _ (c .before .before .before .before .before .before .before .before .before .before .before .if1 .left))) .notifications
 
--- src/lib.rt:113:13
-unchanged-requires-7 : tie.Need-unchanged-requires-7
-unchanged-requires-7 c κs = search needs
-
--- src/lib.rt:113:13
-returns-7 : tie.Need-returns-7
-returns-7 c =
-    let a = c .before .before .before .before .before .before .before .before .before .before .before .before .before .before .before .before .before .before .before .before .before .before .before .before .before .args in
-    told (a .s) (c .unchanged7 .result) 1 (a .store .now) _ (c .unchanged7 .ensures) (unfit-law (central (a .s)) (a .store .now) (adv (a .at) (a .channel) (a .pdu) (a .address) (a .«data» .now) (a .to-central)) (unfit (central (a .s)) _ (λ f. f .values) (sym (c .before .before .values-fit .ensures) ∙ not-true _ (c .before .if11 .taken))))
-
--- src/lib.rt:117:9
+-- src/lib.rt:75:9
 too-late-requires : tie.Need-too-late-requires
 too-late-requires c κs = search needs
 
--- src/lib.rt:119:9
+-- src/lib.rt:77:9
 first-refusal-requires : tie.Need-first-refusal-requires
 first-refusal-requires c κs = search needs
 
--- src/lib.rt:118:9
+-- src/lib.rt:76:9
 then-data-requires : tie.Need-then-data-requires
 then-data-requires c κs = search needs
 
--- src/lib.rt:123:9
-unchanged-requires-8 : tie.Need-unchanged-requires-8
-unchanged-requires-8 c κs = search needs
+-- src/lib.rt:81:9
+unchanged-requires-2 : tie.Need-unchanged-requires-2
+unchanged-requires-2 c κs = search needs
 
--- src/lib.rt:123:9
-returns-8 : tie.Need-returns-8
-returns-8 c =
-    let a = c .before .before .before .before .before .before .before .before .before .before .before .before .before .before .before .before .before .before .before .before .before .before .before .before .before .before .args in
-    told (a .s) (c .unchanged8 .result) (c .before .before .then-data .result) (a .store .now) _ (c .unchanged8 .ensures) (refused-law (central (a .s)) (a .store .now) (adv (a .at) (a .channel) (a .pdu) (a .address) (a .«data» .now) (a .to-central)) (c .before .before .before .first-refusal .result) (c .before .before .then-data .result) (c .before .before .before .before .too-late .result) (of-fit (central (a .s)) (fitted (c .before .before .before .before .before))) (c .before .before .before .before .too-late .ensures) (c .before .before .before .first-refusal .ensures) (c .before .before .then-data .ensures) (c .before .if12 .taken))
+-- src/lib.rt:81:9
+returns-2 : tie.Need-returns-2
+returns-2 c =
+    let a = c .before .before .before .before .before .before .before .before .before .before .before .before .before .before .before .before .before .before .before .before .before .before .before .before .args in
+    told (a .s) (c .unchanged2 .result) (c .before .before .then-data .result) (a .store .now) _ (c .unchanged2 .ensures) (refused-law (central (a .s)) (a .store .now) (adv (a .at) (a .channel) (a .pdu) (a .address) (a .«data» .now) (a .to-central)) (c .before .before .before .first-refusal .result) (c .before .before .then-data .result) (c .before .before .before .before .too-late .result) (c .before .before .before .before .before .if5 .fits) (flag (c .before .before .before .before .before)) (c .before .before .before .before .too-late .ensures) (c .before .before .before .first-refusal .ensures) (c .before .before .then-data .ensures) (c .before .if6 .taken))
 
--- src/lib.rt:125:9
+-- src/lib.rt:83:9
 is-listening-requires : tie.Need-is-listening-requires
 is-listening-requires c κs = search needs
 
--- src/lib.rt:126:9
-unchanged-requires-9 : tie.Need-unchanged-requires-9
-unchanged-requires-9 c κs = search needs
+-- src/lib.rt:84:9
+unchanged-requires-3 : tie.Need-unchanged-requires-3
+unchanged-requires-3 c κs = search needs
 
--- src/lib.rt:126:9
-returns-9 : tie.Need-returns-9
-returns-9 c =
-    let a = c .before .before .before .before .before .before .before .before .before .before .before .before .before .before .before .before .before .before .before .before .before .before .before .before .before .before .before .before .args in
-    told (a .s) (c .unchanged9 .result) 0 (a .store .now) _ (c .unchanged9 .ensures) (quiet-law (central (a .s)) (a .store .now) (adv (a .at) (a .channel) (a .pdu) (a .address) (a .«data» .now) (a .to-central)) (clear (c .before .before .before)) (sym (c .before .before .is-listening .ensures) ∙ not-true _ (c .before .if13 .taken)))
+-- src/lib.rt:84:9
+returns-3 : tie.Need-returns-3
+returns-3 c =
+    let a = c .before .before .before .before .before .before .before .before .before .before .before .before .before .before .before .before .before .before .before .before .before .before .before .before .before .before .args in
+    told (a .s) (c .unchanged3 .result) 0 (a .store .now) _ (c .unchanged3 .ensures) (quiet-law (central (a .s)) (a .store .now) (adv (a .at) (a .channel) (a .pdu) (a .address) (a .«data» .now) (a .to-central)) (clear (c .before .before .before)) (sym (c .before .before .is-listening .ensures) ∙ not-true _ (c .before .if7 .taken)))
 
--- src/lib.rt:128:9
+-- src/lib.rt:86:9
 key-of-requires : tie.Need-key-of-requires
 key-of-requires c κs = search needs
 
--- src/lib.rt:130:9
+-- src/lib.rt:88:9
 is-asking-requires : tie.Need-is-asking-requires
 is-asking-requires c κs = search needs
 
--- src/lib.rt:131:9
+-- src/lib.rt:89:9
 is-due-requires : tie.Need-is-due-requires
 is-due-requires c κs =
-    let a = c .before .before .before .before .before .before .before .before .before .before .before .before .before .before .before .before .before .before .before .before .before .before .before .before .before .before .before .before .before .before .before .args in
-    ((fitted (c .before .before .before .before .before .before .before .before .before .before)) .head .keys, length-unmapped ℕ (a .s .keys) 128 ((c .before .before .before .before .before .before .before .before .before .before .before .before .before .before .before .before .before .before .before .before .before .before .before .before .before .before .before .before .before .before .before) .good .0 .1 .1 .1 .1 .1 .1 .1 .1 .1 .1 .1 .1 .1 .1 .1 .0 .1 .0 .1))
+    let a = c .before .before .before .before .before .before .before .before .before .before .before .before .before .before .before .before .before .before .before .before .before .before .before .before .before .before .before .before .before .args in
+    ((short (c .before .before .before .before .before .before) .gate .fit) .head .keys, length-unmapped ℕ (a .s .keys) 128 (c .before .before .before .before .before .before .before .before .before .before .before .before .before .before .before .before .before .before .before .before .before .before .before .before .before .before .before .before .before .good .0 .1 .1 .1 .1 .1 .1 .1 .1 .1 .1 .1 .1 .1 .1 .1 .0 .1 .0 .1))
 
--- src/lib.rt:104:8
+-- src/lib.rt:90:8
 keys-full-requires : tie.Need-keys-full-requires
 keys-full-requires c κs = search needs
 
--- src/lib.rt:133:9
-unchanged-requires-10 : tie.Need-unchanged-requires-10
-unchanged-requires-10 c κs = search needs
+-- src/lib.rt:91:9
+unchanged-requires-4 : tie.Need-unchanged-requires-4
+unchanged-requires-4 c κs = search needs
 
--- src/lib.rt:133:9
-returns-10 : tie.Need-returns-10
-returns-10 c =
-    let a = c .before .before .before .before .before .before .before .before .before .before .before .before .before .before .before .before .before .before .before .before .before .before .before .before .before .before .before .before .before .before .before .before .before .before .before .args in
-    told (a .s) (c .unchanged10 .result) 8 (a .store .now) _ (c .unchanged10 .ensures) (full-law (central (a .s)) (a .store .now) (adv (a .at) (a .channel) (a .pdu) (a .address) (a .«data» .now) (a .to-central)) (clear (c .before .before .before .before .before .before .before .before .before .before)) (c .before .before .before .is-due .result) (c .before .before .before .is-due .ensures ∙ rw (c .before .before .before .before .before .is-asking .ensures, c .before .before .before .before .before .before .before .key-of .ensures)) (sym (c .before .before .keys-full .ensures) ∙ c .before .if14 .taken))
+-- src/lib.rt:91:9
+returns-4 : tie.Need-returns-4
+returns-4 c =
+    let a = c .before .before .before .before .before .before .before .before .before .before .before .before .before .before .before .before .before .before .before .before .before .before .before .before .before .before .before .before .before .before .before .before .before .args in
+    told (a .s) (c .unchanged4 .result) 8 (a .store .now) _ (c .unchanged4 .ensures) (full-law (central (a .s)) (a .store .now) (adv (a .at) (a .channel) (a .pdu) (a .address) (a .«data» .now) (a .to-central)) (clear (c .before .before .before .before .before .before .before .before .before .before)) (c .before .before .before .is-due .result) (c .before .before .before .is-due .ensures ∙ rw (c .before .before .before .before .before .is-asking .ensures, c .before .before .before .before .before .before .before .key-of .ensures)) (sym (c .before .before .keys-full .ensures) ∙ c .before .if8 .taken))
 
--- src/lib.rt:135:9
-narrow-requires : tie.Need-narrow-requires
-narrow-requires c κs = short (c .before .before .before .before .before .before .before .before .before) .short
-
--- src/lib.rt:138:9
+-- src/lib.rt:94:9
 find-requires : tie.Need-find-requires
-find-requires c κs = ((fitted (c .before .before .before .before .before .before .before .before .before .before .before .before .before .before .before .before)) .head .reports, whole (c .before .before .before .before .before .before .before .before .before .before .before .before .before .before .before .before .before .before .before .before .before .before .before .before .before .before .before .before .before .before .before .before .before .before .before .before .before) .who)
+find-requires c κs = ((short (c .before .before .before .before .before .before .before .before .before .before .before) .gate .fit) .head .reports, whole (c .before .before .before .before .before .before .before .before .before .before .before .before .before .before .before .before .before .before .before .before .before .before .before .before .before .before .before .before .before .before .before .before .before .before) .who)
 
--- src/lib.rt:140:9
-mul-h : tie.Need-mul-h
-mul-h c = let h : c .before .find .result < 64 = omega (arith, c .if15 .taken, (fitted (c .before .before .before .before .before .before .before .before .before .before .before .before .before .before .before .before .before .before)) .head .reports) in
-    omega (arith, h)
+-- src/lib.rt:95:9
+kept-response-requires : tie.Need-kept-response-requires
+kept-response-requires c κs = ((short (c .before .before .before .before .before .before .before .before .before .before .before .before .before .before) .gate .fit) .head .reports, whole (c .before .before .before .before .before .before .before .before .before .before .before .before .before .before .before .before .before .before .before .before .before .before .before .before .before .before .before .before .before .before .before .before .before .before .before .before .before) .response)
 
--- src/lib.rt:140:9
-element-write-h : tie.Need-element-write-h
-element-write-h c = let h : c .before .find .result < 64 = omega (arith, c .if15 .taken, (fitted (c .before .before .before .before .before .before .before .before .before .before .before .before .before .before .before .before .before .before)) .head .reports) in
-    omega (arith, h)
+-- src/lib.rt:96:5
+put-word-requires : tie.Need-put-word-requires
+put-word-requires c κs = whole (c .before .before .before .before .before .before .before .before .before .before .before .before .before .before .before .before .before .before .before .before .before .before .before .before .before .before .before .before .before .before .before .before .before .before .before .before .before .before .before) .who
 
--- src/lib.rt:141:9
-element-write-h-2 : tie.Need-element-write-h-2
-element-write-h-2 c = let h : c .before .find .result < 64 = omega (arith, c .if15 .taken, (fitted (c .before .before .before .before .before .before .before .before .before .before .before .before .before .before .before .before .before .before)) .head .reports) in
-    omega (arith, h)
+-- src/lib.rt:97:5
+put-word-requires-2 : tie.Need-put-word-requires-2
+put-word-requires-2 c κs = whole (c .before .before .before .before .before .before .before .before .before .before .before .before .before .before .before .before .before .before .before .before .before .before .before .before .before .before .before .before .before .before .before .before .before .before .before .before .before .before .before .before .before) .at
 
--- src/lib.rt:142:9
-element-write-h-3 : tie.Need-element-write-h-3
-element-write-h-3 c = let h : c .before .find .result < 64 = omega (arith, c .if15 .taken, (fitted (c .before .before .before .before .before .before .before .before .before .before .before .before .before .before .before .before .before .before)) .head .reports) in
-    omega (arith, h)
+-- src/lib.rt:98:5
+put-byte-requires : tie.Need-put-byte-requires
+put-byte-requires c κs = whole (c .before .before .before .before .before .before .before .before .before .before .before .before .before .before .before .before .before .before .before .before .before .before .before .before .before .before .before .before .before .before .before .before .before .before .before .before .before .before .before .before .before .before .before) .channel
 
--- src/lib.rt:143:9
-element-write-h-4 : tie.Need-element-write-h-4
-element-write-h-4 c = let h : c .before .find .result < 64 = omega (arith, c .if15 .taken, (fitted (c .before .before .before .before .before .before .before .before .before .before .before .before .before .before .before .before .before .before)) .head .reports) in
-    omega (arith, h)
+-- src/lib.rt:99:5
+put-byte-requires-2 : tie.Need-put-byte-requires-2
+put-byte-requires-2 c κs = whole (c .before .before .before .before .before .before .before .before .before .before .before .before .before .before .before .before .before .before .before .before .before .before .before .before .before .before .before .before .before .before .before .before .before .before .before .before .before .before .before .before .before .before .before .before .before) .pdu
 
--- src/lib.rt:144:9
-put-data-requires : tie.Need-put-data-requires
-put-data-requires c κs = let h : c .before .before .find .result < 64 = omega (arith, c .before .if15 .taken, (fitted (c .before .before .before .before .before .before .before .before .before .before .before .before .before .before .before .before .before .before .before)) .head .reports) in
-    h
+-- src/lib.rt:100:44
+narrow-requires : tie.Need-narrow-requires
+narrow-requires c κs = short (c .before .before .before .before .before .before .before .before .before .before .before .before .before .before .before .before .before .before .before .before .before .before .before .before) .short
 
--- src/lib.rt:149:13
+-- src/lib.rt:100:5
+put-byte-requires-3 : tie.Need-put-byte-requires-3
+put-byte-requires-3 c κs = whole (c .before .before .before .before .before .before .before .before .before .before .before .before .before .before .before .before .before .before .before .before .before .before .before .before .before .before .before .before .before .before .before .before .before .before .before .before .before .before .before .before .before .before .before .before .before .before .before .before) .len
+
+-- src/lib.rt:101:5
+put-byte-requires-4 : tie.Need-put-byte-requires-4
+put-byte-requires-4 c κs = whole (c .before .before .before .before .before .before .before .before .before .before .before .before .before .before .before .before .before .before .before .before .before .before .before .before .before .before .before .before .before .before .before .before .before .before .before .before .before .before .before .before .before .before .before .before .before .before .before .before .before .before) .response
+
+-- src/lib.rt:102:5
+put-block-requires : tie.Need-put-block-requires
+put-block-requires c κs = search needs
+
+-- src/lib.rt:106:5
+counted-requires : tie.Need-counted-requires
+counted-requires c κs = search needs
+
+-- src/lib.rt:109:9
 mul-more : tie.Need-mul-more
 mul-more c =
-    let a = c .before .before .before .before .before .before .before .before .before .before .before .before .before .before .before .before .before .before .before .before .before .before .before .before .before .before .before .before .before .before .before .before .before .before .before .before .before .before .before .before .before .before .before .before .before .args in
-    let h : a .s .«key_count» < 128 = key-place (central (a .s)) (a .store .now) (adv (a .at) (a .channel) (a .pdu) (a .address) (a .«data» .now) (a .to-central)) (c .before .before .before .before .before .before .before .before .before .before .before .before .before .before .before .before .before .key-of .result) (c .before .before .before .before .before .before .before .before .before .before .before .before .before .is-due .result) (going (c .before .before .before .before .before .before .before .before .before .before .before)) (c .before .if16 .taken) ((fitted (c .before .before .before .before .before .before .before .before .before .before .before .before .before .before .before .before .before .before .before .before .before .before .before .before)) .head .keys) in omega (arith, h)
+    let a = c .before .before .before .before .before .before .before .before .before .before .before .before .before .before .before .before .before .before .before .before .before .before .before .before .before .before .before .before .before .before .before .before .before .before .before .before .before .before .before .before .before .before .before .before .before .before .before .before .before .before .before .before .before .before .before .before .before .before .args in
+    let h : a .s .«key_count» < 128 = key-place (central (a .s)) (a .store .now) (adv (a .at) (a .channel) (a .pdu) (a .address) (a .«data» .now) (a .to-central)) (c .before .before .before .before .before .before .before .before .before .before .before .before .before .before .before .before .before .before .before .before .before .before .before .before .before .before .before .before .before .before .before .before .key-of .result) (c .before .before .before .before .before .before .before .before .before .before .before .before .before .before .before .before .before .before .before .before .before .before .before .before .before .before .before .before .is-due .result) (going (c .before .before .before .before .before .before .before .before .before .before .before .before .before .before .before .before .before .before .before .before .before .before .before .before .before .before)) (c .before .if9 .taken) ((short (c .before .before .before .before .before .before .before .before .before .before .before .before .before .before .before .before .before .before .before .before .before .before .before .before .before .before .before .before .before .before .before .before .before .before .before) .gate .fit) .head .keys) in
+    omega (arith, h)
 
--- src/lib.rt:149:13
+-- src/lib.rt:109:9
 array-write-more : tie.Need-array-write-more
 array-write-more c =
-    let a = c .before .before .before .before .before .before .before .before .before .before .before .before .before .before .before .before .before .before .before .before .before .before .before .before .before .before .before .before .before .before .before .before .before .before .before .before .before .before .before .before .before .before .before .before .before .args in
-    let h : a .s .«key_count» < 128 = key-place (central (a .s)) (a .store .now) (adv (a .at) (a .channel) (a .pdu) (a .address) (a .«data» .now) (a .to-central)) (c .before .before .before .before .before .before .before .before .before .before .before .before .before .before .before .before .before .key-of .result) (c .before .before .before .before .before .before .before .before .before .before .before .before .before .is-due .result) (going (c .before .before .before .before .before .before .before .before .before .before .before)) (c .before .if16 .taken) ((fitted (c .before .before .before .before .before .before .before .before .before .before .before .before .before .before .before .before .before .before .before .before .before .before .before .before)) .head .keys) in omega (arith, h)
+    let a = c .before .before .before .before .before .before .before .before .before .before .before .before .before .before .before .before .before .before .before .before .before .before .before .before .before .before .before .before .before .before .before .before .before .before .before .before .before .before .before .before .before .before .before .before .before .before .before .before .before .before .before .before .before .before .before .before .before .before .args in
+    let h : a .s .«key_count» < 128 = key-place (central (a .s)) (a .store .now) (adv (a .at) (a .channel) (a .pdu) (a .address) (a .«data» .now) (a .to-central)) (c .before .before .before .before .before .before .before .before .before .before .before .before .before .before .before .before .before .before .before .before .before .before .before .before .before .before .before .before .before .before .before .before .key-of .result) (c .before .before .before .before .before .before .before .before .before .before .before .before .before .before .before .before .before .before .before .before .before .before .before .before .before .before .before .before .is-due .result) (going (c .before .before .before .before .before .before .before .before .before .before .before .before .before .before .before .before .before .before .before .before .before .before .before .before .before .before)) (c .before .if9 .taken) ((short (c .before .before .before .before .before .before .before .before .before .before .before .before .before .before .before .before .before .before .before .before .before .before .before .before .before .before .before .before .before .before .before .before .before .before .before) .gate .fit) .head .keys) in
+    omega (arith, h)
 
--- src/lib.rt:151:27
+-- src/lib.rt:111:23
 add-o : tie.Need-add-o
 add-o c =
-    let a = c .before .before .before .before .before .before .before .before .before .before .before .before .before .before .before .before .before .before .before .before .before .before .before .before .before .before .before .before .before .before .before .before .before .before .before .before .before .before .before .before .before .before .before .before .before .args in
-    let h : a .s .«key_count» < 128 = key-place (central (a .s)) (a .store .now) (adv (a .at) (a .channel) (a .pdu) (a .address) (a .«data» .now) (a .to-central)) (c .before .before .before .before .before .before .before .before .before .before .before .before .before .before .before .before .before .key-of .result) (c .before .before .before .before .before .before .before .before .before .before .before .before .before .is-due .result) (going (c .before .before .before .before .before .before .before .before .before .before .before)) (c .before .if16 .taken) ((fitted (c .before .before .before .before .before .before .before .before .before .before .before .before .before .before .before .before .before .before .before .before .before .before .before .before)) .head .keys) in omega (arith, h)
+    let a = c .before .before .before .before .before .before .before .before .before .before .before .before .before .before .before .before .before .before .before .before .before .before .before .before .before .before .before .before .before .before .before .before .before .before .before .before .before .before .before .before .before .before .before .before .before .before .before .before .before .before .before .before .before .before .before .before .before .before .args in
+    let h : a .s .«key_count» < 128 = key-place (central (a .s)) (a .store .now) (adv (a .at) (a .channel) (a .pdu) (a .address) (a .«data» .now) (a .to-central)) (c .before .before .before .before .before .before .before .before .before .before .before .before .before .before .before .before .before .before .before .before .before .before .before .before .before .before .before .before .before .before .before .before .key-of .result) (c .before .before .before .before .before .before .before .before .before .before .before .before .before .before .before .before .before .before .before .before .before .before .before .before .before .before .before .before .is-due .result) (going (c .before .before .before .before .before .before .before .before .before .before .before .before .before .before .before .before .before .before .before .before .before .before .before .before .before .before)) (c .before .if9 .taken) ((short (c .before .before .before .before .before .before .before .before .before .before .before .before .before .before .before .before .before .before .before .before .before .before .before .before .before .before .before .before .before .before .before .before .before .before .before) .gate .fit) .head .keys) in
+    omega (arith, h)
 
--- src/lib.rt:152:13
+-- src/lib.rt:112:9
 same-length : tie.Need-same-length
 same-length c = search needs
 
--- src/lib.rt:152:13
-returns-11 : tie.Need-returns-11
-returns-11 c =
-    let a = c .before .before .before .before .before .before .before .before .before .before .before .before .before .before .before .before .before .before .before .before .before .before .before .before .before .before .before .before .before .before .before .before .before .before .before .before .before .before .before .before .before .before .before .before .before .args in
-    known-asked (central (a .s)) (a .store .now) _ (adv (a .at) (a .channel) (a .pdu) (a .address) (a .«data» .now) (a .to-central)) (c .before .before .before .before .before .before .before .before .before .before .before .before .before .before .before .before .before .key-of .result) (c .before .before .before .before .before .before .before .before .before .before .before .before .before .is-due .result) (going (c .before .before .before .before .before .before .before .before .before .before .before)) (c .before .before .before .before .before .before .before .find .result) (c .before .before .before .before .before .before .before .before .before .before .narrow .result) (c .before .before .before .before .before .before .before .before .before .before .narrow .ensures) (c .before .before .before .before .before .before .before .find .ensures .0) (c .before .before .before .before .before .before .if15 .taken) (c .before .before .before .before .put-data .ensures) (c .before .if16 .taken)
+-- src/lib.rt:112:9
+returns-5 : tie.Need-returns-5
+returns-5 c =
+    let a = c .before .before .before .before .before .before .before .before .before .before .before .before .before .before .before .before .before .before .before .before .before .before .before .before .before .before .before .before .before .before .before .before .before .before .before .before .before .before .before .before .before .before .before .before .before .before .before .before .before .before .before .before .before .before .before .before .before .before .args in
+    put-asked (central (a .s)) (a .store .now) _ (adv (a .at) (a .channel) (a .pdu) (a .address) (a .«data» .now) (a .to-central)) (c .before .before .before .before .before .before .before .before .before .before .before .before .before .before .before .before .before .before .before .before .before .before .before .before .before .before .before .before .before .before .before .before .key-of .result) (c .before .before .before .before .before .before .before .before .before .before .before .before .before .before .before .before .before .before .before .before .before .before .before .before .before .before .before .before .is-due .result) (going (c .before .before .before .before .before .before .before .before .before .before .before .before .before .before .before .before .before .before .before .before .before .before .before .before .before .before)) (c .before .before .before .before .before .before .before .before .before .before .before .before .before .before .before .before .before .before .before .before .before .before .before .find .result) (c .before .before .before .before .before .before .before .before .before .before .narrow .result) (c .before .before .before .before .before .before .before .before .before .before .before .before .before .before .before .before .before .before .before .before .kept-response .result) (c .before .before .counted .result) (c .before .before .before .before .before .before .before .before .before .before .narrow .ensures) (c .before .before .before .before .before .before .before .before .before .before .before .before .before .before .before .before .before .before .before .before .before .before .before .find .ensures .0) (c .before .before .before .before .before .before .before .before .before .before .before .before .before .before .before .before .before .before .before .before .before .before .before .find .ensures .1) ((short (c .before .before .before .before .before .before .before .before .before .before .before .before .before .before .before .before .before .before .before .before .before .before .before .before .before .before .before .before .before .before .before .before .before .before .before) .gate .fit) .head .reports) (whole (c .before .before .before .before .before .before .before .before .before .before .before .before .before .before .before .before .before .before .before .before .before .before .before .before .before .before .before .before .before .before .before .before .before .before .before .before .before .before .before .before .before .before .before .before .before .before .before .before .before .before .before .before .before .before .before .before .before .before)) _ _ _ _ _ _ (record { whoPut = c .before .before .before .before .before .before .before .before .before .before .before .before .before .before .before .before .before .before .put-word .ensures; atPut = c .before .before .before .before .before .before .before .before .before .before .before .before .before .before .before .before .put-word2 .ensures; channelPut = c .before .before .before .before .before .before .before .before .before .before .before .before .before .before .put-byte .ensures; pduPut = c .before .before .before .before .before .before .before .before .before .before .before .before .put-byte2 .ensures; lenPut = c .before .before .before .before .before .before .before .before .before .put-byte3 .ensures; responsePut = c .before .before .before .before .before .before .before .put-byte4 .ensures }) (c .before .before .before .before .before .before .before .before .before .before .before .before .before .before .before .before .before .before .before .before .kept-response .ensures) (c .before .before .counted .ensures) (c .before .before .before .before .before .put-block .ensures) (c .before .if9 .taken)
 
--- src/lib.rt:158:24
-element-copy-out-response : tie.Need-element-copy-out-response
-element-copy-out-response c = let h : c .before .before .before .before .before .before .find .result < 64 = omega (arith, c .before .before .before .before .before .if15 .taken, (fitted (c .before .before .before .before .before .before .before .before .before .before .before .before .before .before .before .before .before .before .before .before .before .before .before)) .head .reports) in
-    omega (arith, h)
+-- src/lib.rt:118:9
+last-place-requires : tie.Need-last-place-requires
+last-place-requires c κs = search needs
 
--- src/lib.rt:159:13
+-- src/lib.rt:120:9
 choose-requires : tie.Need-choose-requires
 choose-requires c κs =
-    let a = c .before .before .before .before .before .before .before .before .before .before .before .before .before .before .before .before .before .before .before .before .before .before .before .before .before .before .before .before .before .before .before .before .before .before .before .before .before .before .before .before .before .before .before .before .before .before .args in
-    let h : c .before .before .before .before .before .before .before .before .find .result < 64 = omega (arith, c .before .before .before .before .before .before .before .if15 .taken, (fitted (c .before .before .before .before .before .before .before .before .before .before .before .before .before .before .before .before .before .before .before .before .before .before .before .before .before)) .head .reports) in
-    (again-length (c .before .before .before .before .before .before .before .before .find .result) (a .«data» .now) (a .store .now) _ (c .before .before .before .before .before .put-data .ensures) (short (c .before .before .before .before .before .before .before .before .before .before .before .before .before .before .before .before .before .before .before .before .before) .gate .store), h)
+    let a = c .before .before .before .before .before .before .before .before .before .before .before .before .before .before .before .before .before .before .before .before .before .before .before .before .before .before .before .before .before .before .before .before .before .before .before .before .before .before .before .before .before .before .before .before .before .before .before .before .before .before .before .before .before .before .before .before .before .before .before .args in
+    (block-length (c .before .before .before .before .before .before .before .before .before .before .before .before .before .before .before .before .before .before .before .before .before .before .before .before .find .result) (a .«data» .now) (a .store .now) _ (c .before .before .before .before .before .before .put-block .ensures) (short (c .before .before .before .before .before .before .before .before .before .before .before .before .before .before .before .before .before .before .before .before .before .before .before .before .before .before .before .before .before .before .before .before .before .before .before .before) .gate .store), omega (arith, c .before .last-place .ensures))
 
--- src/lib.rt:160:9
+-- src/lib.rt:30:1
 same-length-2 : tie.Need-same-length-2
 same-length-2 c = search needs
 
--- src/lib.rt:160:9
-returns-12 : tie.Need-returns-12
-returns-12 c =
-    let a = c .before .before .before .before .before .before .before .before .before .before .before .before .before .before .before .before .before .before .before .before .before .before .before .before .before .before .before .before .before .before .before .before .before .before .before .before .before .before .before .before .before .before .before .before .before .before .before .args in
-    known-chosen (central (a .s)) (a .store .now) _ (adv (a .at) (a .channel) (a .pdu) (a .address) (a .«data» .now) (a .to-central)) (c .before .before .before .before .before .before .before .before .before .before .before .before .before .before .before .before .before .before .before .key-of .result) (c .before .before .before .before .before .before .before .before .before .before .before .before .before .before .before .is-due .result) (going (c .before .before .before .before .before .before .before .before .before .before .before .before .before)) (c .before .before .before .before .before .before .before .before .before .find .result) (c .before .before .before .before .before .before .before .before .before .before .before .before .narrow .result) (c .before .before .before .before .before .before .before .before .before .before .before .before .narrow .ensures) (c .before .before .before .before .before .before .before .before .before .find .ensures .0) (c .before .before .before .before .before .before .before .before .if15 .taken) (c .before .before .before .before .before .before .put-data .ensures) _ (c .before .before .before .if16 .left) (c .choose .ensures)
-
--- src/lib.rt:167:9
-mul-who : tie.Need-mul-who
-mul-who c = search needs
-
--- src/lib.rt:167:9
-array-write-who : tie.Need-array-write-who
-array-write-who c = search needs
-
--- src/lib.rt:168:9
-mul-h-2 : tie.Need-mul-h-2
-mul-h-2 c = search needs
-
--- src/lib.rt:168:9
-element-write-h-5 : tie.Need-element-write-h-5
-element-write-h-5 c = search needs
-
--- src/lib.rt:169:9
-element-write-h-6 : tie.Need-element-write-h-6
-element-write-h-6 c = search needs
-
--- src/lib.rt:170:9
-element-write-h-7 : tie.Need-element-write-h-7
-element-write-h-7 c = search needs
-
--- src/lib.rt:171:9
-element-write-h-8 : tie.Need-element-write-h-8
-element-write-h-8 c = search needs
-
--- src/lib.rt:172:9
-element-write-h-9 : tie.Need-element-write-h-9
-element-write-h-9 c = search needs
-
--- src/lib.rt:173:9
-put-data-requires-2 : tie.Need-put-data-requires-2
-put-data-requires-2 c κs = search needs
-
--- src/lib.rt:177:21
-add-o-2 : tie.Need-add-o-2
-add-o-2 c = search needs
-
--- src/lib.rt:180:13
-mul-more-2 : tie.Need-mul-more-2
-mul-more-2 c =
-    let a = c .before .before .before .before .before .before .before .before .before .before .before .before .before .before .before .before .before .before .before .before .before .before .before .before .before .before .before .before .before .before .before .before .before .before .before .before .before .before .before .before .before .before .before .before .before .before .args in
-    let h : a .s .«key_count» < 128 = key-place (central (a .s)) (a .store .now) (adv (a .at) (a .channel) (a .pdu) (a .address) (a .«data» .now) (a .to-central)) (c .before .before .before .before .before .before .before .before .before .before .before .before .before .before .before .before .before .before .key-of .result) (c .before .before .before .before .before .before .before .before .before .before .before .before .before .before .is-due .result) (going (c .before .before .before .before .before .before .before .before .before .before .before .before)) (c .before .if18 .taken) ((fitted (c .before .before .before .before .before .before .before .before .before .before .before .before .before .before .before .before .before .before .before .before .before .before .before .before .before)) .head .keys) in omega (arith, h)
-
--- src/lib.rt:180:13
-array-write-more-2 : tie.Need-array-write-more-2
-array-write-more-2 c =
-    let a = c .before .before .before .before .before .before .before .before .before .before .before .before .before .before .before .before .before .before .before .before .before .before .before .before .before .before .before .before .before .before .before .before .before .before .before .before .before .before .before .before .before .before .before .before .before .before .args in
-    let h : a .s .«key_count» < 128 = key-place (central (a .s)) (a .store .now) (adv (a .at) (a .channel) (a .pdu) (a .address) (a .«data» .now) (a .to-central)) (c .before .before .before .before .before .before .before .before .before .before .before .before .before .before .before .before .before .before .key-of .result) (c .before .before .before .before .before .before .before .before .before .before .before .before .before .before .is-due .result) (going (c .before .before .before .before .before .before .before .before .before .before .before .before)) (c .before .if18 .taken) ((fitted (c .before .before .before .before .before .before .before .before .before .before .before .before .before .before .before .before .before .before .before .before .before .before .before .before .before)) .head .keys) in omega (arith, h)
-
--- src/lib.rt:182:27
-add-o-3 : tie.Need-add-o-3
-add-o-3 c =
-    let a = c .before .before .before .before .before .before .before .before .before .before .before .before .before .before .before .before .before .before .before .before .before .before .before .before .before .before .before .before .before .before .before .before .before .before .before .before .before .before .before .before .before .before .before .before .before .before .args in
-    let h : a .s .«key_count» < 128 = key-place (central (a .s)) (a .store .now) (adv (a .at) (a .channel) (a .pdu) (a .address) (a .«data» .now) (a .to-central)) (c .before .before .before .before .before .before .before .before .before .before .before .before .before .before .before .before .before .before .key-of .result) (c .before .before .before .before .before .before .before .before .before .before .before .before .before .before .is-due .result) (going (c .before .before .before .before .before .before .before .before .before .before .before .before)) (c .before .if18 .taken) ((fitted (c .before .before .before .before .before .before .before .before .before .before .before .before .before .before .before .before .before .before .before .before .before .before .before .before .before)) .head .keys) in omega (arith, h)
-
--- src/lib.rt:183:13
-same-length-3 : tie.Need-same-length-3
-same-length-3 c = search needs
-
--- src/lib.rt:183:13
-returns-13 : tie.Need-returns-13
-returns-13 c =
-    let a = c .before .before .before .before .before .before .before .before .before .before .before .before .before .before .before .before .before .before .before .before .before .before .before .before .before .before .before .before .before .before .before .before .before .before .before .before .before .before .before .before .before .before .before .before .before .before .args in
-    room-asked (central (a .s)) (a .store .now) _ (adv (a .at) (a .channel) (a .pdu) (a .address) (a .«data» .now) (a .to-central)) (c .before .before .before .before .before .before .before .before .before .before .before .before .before .before .before .before .before .before .key-of .result) (c .before .before .before .before .before .before .before .before .before .before .before .before .before .before .is-due .result) (going (c .before .before .before .before .before .before .before .before .before .before .before .before)) (c .before .before .before .before .before .before .before .before .find .result) (c .before .before .before .before .before .before .before .before .before .before .before .narrow .result) (c .before .before .before .before .before .before .before .before .before .before .before .narrow .ensures) (c .before .before .before .before .before .before .before .before .find .ensures .0) (whole (c .before .before .before .before .before .before .before .before .before .before .before .before .before .before .before .before .before .before .before .before .before .before .before .before .before .before .before .before .before .before .before .before .before .before .before .before .before .before .before .before .before .before .before .before .before .before)) (c .before .before .before .before .before .before .before .if15 .left) (c .before .before .before .before .before .before .if17 .taken) (c .before .before .before .before .put-data2 .ensures) (c .before .if18 .taken)
-
--- src/lib.rt:189:13
-choose-requires-2 : tie.Need-choose-requires-2
-choose-requires-2 c κs =
-    let a = c .before .before .before .before .before .before .before .before .before .before .before .before .before .before .before .before .before .before .before .before .before .before .before .before .before .before .before .before .before .before .before .before .before .before .before .before .before .before .before .before .before .before .before .before .before .before .args in
-    (again-length (a .s .reports) (a .«data» .now) (a .store .now) _ (c .before .before .before .before .put-data2 .ensures) (short (c .before .before .before .before .before .before .before .before .before .before .before .before .before .before .before .before .before .before .before .before .before) .gate .store), c .before .before .before .before .before .before .if17 .taken)
-
--- src/lib.rt:199:9
-same-length-4 : tie.Need-same-length-4
-same-length-4 c = search needs
-
--- src/lib.rt:199:9
-returns-14 : tie.Need-returns-14
-returns-14 c =
-    let a = c .before .before .before .before .before .before .before .before .before .before .before .before .before .before .before .before .before .before .before .before .before .before .before .before .before .before .before .before .before .before .before .before .before .before .before .before .before .before .before .before .before .before .before .before .before .before .before .args in
-    room-chosen (central (a .s)) (a .store .now) _ (adv (a .at) (a .channel) (a .pdu) (a .address) (a .«data» .now) (a .to-central)) (c .before .before .before .before .before .before .before .before .before .before .before .before .before .before .before .before .before .before .before .key-of .result) (c .before .before .before .before .before .before .before .before .before .before .before .before .before .before .before .is-due .result) (going (c .before .before .before .before .before .before .before .before .before .before .before .before .before)) (c .before .before .before .before .before .before .before .before .before .find .result) (c .before .before .before .before .before .before .before .before .before .before .before .before .narrow .result) (c .before .before .before .before .before .before .before .before .before .before .before .before .narrow .ensures) (c .before .before .before .before .before .before .before .before .before .find .ensures .0) (whole (c .before .before .before .before .before .before .before .before .before .before .before .before .before .before .before .before .before .before .before .before .before .before .before .before .before .before .before .before .before .before .before .before .before .before .before .before .before .before .before .before .before .before .before .before .before .before .before)) (c .before .before .before .before .before .before .before .before .if15 .left) (c .before .before .before .before .before .before .before .if17 .taken) (c .before .before .before .before .before .put-data2 .ensures) _ (c .before .before .if18 .left) (c .choose2 .ensures)
-
--- src/lib.rt:205:5
-shift-words-requires : tie.Need-shift-words-requires
-shift-words-requires c κs = whole (c .before .before .before .before .before .before .before .before .before .before .before .before .before .before .before .before .before .before .before .before .before .before .before .before .before .before .before .before .before .before .before .before .before .before .before .before .before .before .before .before .before) .who
-
--- src/lib.rt:206:5
-shift-words-requires-2 : tie.Need-shift-words-requires-2
-shift-words-requires-2 c κs = whole (c .before .before .before .before .before .before .before .before .before .before .before .before .before .before .before .before .before .before .before .before .before .before .before .before .before .before .before .before .before .before .before .before .before .before .before .before .before .before .before .before .before .before .before) .at
-
--- src/lib.rt:207:5
-shift-bytes-requires : tie.Need-shift-bytes-requires
-shift-bytes-requires c κs = whole (c .before .before .before .before .before .before .before .before .before .before .before .before .before .before .before .before .before .before .before .before .before .before .before .before .before .before .before .before .before .before .before .before .before .before .before .before .before .before .before .before .before .before .before .before .before) .channel
-
--- src/lib.rt:208:5
-shift-bytes-requires-2 : tie.Need-shift-bytes-requires-2
-shift-bytes-requires-2 c κs = whole (c .before .before .before .before .before .before .before .before .before .before .before .before .before .before .before .before .before .before .before .before .before .before .before .before .before .before .before .before .before .before .before .before .before .before .before .before .before .before .before .before .before .before .before .before .before .before .before) .pdu
-
--- src/lib.rt:209:5
-shift-bytes-requires-3 : tie.Need-shift-bytes-requires-3
-shift-bytes-requires-3 c κs = whole (c .before .before .before .before .before .before .before .before .before .before .before .before .before .before .before .before .before .before .before .before .before .before .before .before .before .before .before .before .before .before .before .before .before .before .before .before .before .before .before .before .before .before .before .before .before .before .before .before .before) .len
-
--- src/lib.rt:210:5
-shift-bytes-requires-4 : tie.Need-shift-bytes-requires-4
-shift-bytes-requires-4 c κs = whole (c .before .before .before .before .before .before .before .before .before .before .before .before .before .before .before .before .before .before .before .before .before .before .before .before .before .before .before .before .before .before .before .before .before .before .before .before .before .before .before .before .before .before .before .before .before .before .before .before .before .before .before) .response
-
--- src/lib.rt:211:5
-array-write-who-2 : tie.Need-array-write-who-2
-array-write-who-2 c = search needs
-
--- src/lib.rt:212:5
-element-write-h-10 : tie.Need-element-write-h-10
-element-write-h-10 c = search needs
-
--- src/lib.rt:213:5
-element-write-h-11 : tie.Need-element-write-h-11
-element-write-h-11 c = search needs
-
--- src/lib.rt:214:5
-element-write-h-12 : tie.Need-element-write-h-12
-element-write-h-12 c = search needs
-
--- src/lib.rt:215:5
-element-write-h-13 : tie.Need-element-write-h-13
-element-write-h-13 c = search needs
-
--- src/lib.rt:216:5
-element-write-h-14 : tie.Need-element-write-h-14
-element-write-h-14 c = search needs
-
--- src/lib.rt:217:5
-drop-block-requires : tie.Need-drop-block-requires
-drop-block-requires c κs = search needs
-
--- src/lib.rt:218:5
-put-data-requires-3 : tie.Need-put-data-requires-3
-put-data-requires-3 c κs = search needs
-
--- src/lib.rt:224:9
-mul-more-3 : tie.Need-mul-more-3
-mul-more-3 c =
-    let a = c .before .before .before .before .before .before .before .before .before .before .before .before .before .before .before .before .before .before .before .before .before .before .before .before .before .before .before .before .before .before .before .before .before .before .before .before .before .before .before .before .before .before .before .before .before .before .before .before .before .before .before .before .before .before .before .before .before .before .before .before .before .before .args in
-    let h : a .s .«key_count» < 128 = key-place (central (a .s)) (a .store .now) (adv (a .at) (a .channel) (a .pdu) (a .address) (a .«data» .now) (a .to-central)) (c .before .before .before .before .before .before .before .before .before .before .before .before .before .before .before .before .before .before .before .before .before .before .before .before .before .before .before .before .before .before .before .before .before .before .key-of .result) (c .before .before .before .before .before .before .before .before .before .before .before .before .before .before .before .before .before .before .before .before .before .before .before .before .before .before .before .before .before .before .is-due .result) (going (c .before .before .before .before .before .before .before .before .before .before .before .before .before .before .before .before .before .before .before .before .before .before .before .before .before .before .before .before)) (c .before .if19 .taken) ((fitted (c .before .before .before .before .before .before .before .before .before .before .before .before .before .before .before .before .before .before .before .before .before .before .before .before .before .before .before .before .before .before .before .before .before .before .before .before .before .before .before .before .before)) .head .keys) in omega (arith, h)
-
--- src/lib.rt:224:9
-array-write-more-3 : tie.Need-array-write-more-3
-array-write-more-3 c =
-    let a = c .before .before .before .before .before .before .before .before .before .before .before .before .before .before .before .before .before .before .before .before .before .before .before .before .before .before .before .before .before .before .before .before .before .before .before .before .before .before .before .before .before .before .before .before .before .before .before .before .before .before .before .before .before .before .before .before .before .before .before .before .before .before .args in
-    let h : a .s .«key_count» < 128 = key-place (central (a .s)) (a .store .now) (adv (a .at) (a .channel) (a .pdu) (a .address) (a .«data» .now) (a .to-central)) (c .before .before .before .before .before .before .before .before .before .before .before .before .before .before .before .before .before .before .before .before .before .before .before .before .before .before .before .before .before .before .before .before .before .before .key-of .result) (c .before .before .before .before .before .before .before .before .before .before .before .before .before .before .before .before .before .before .before .before .before .before .before .before .before .before .before .before .before .before .is-due .result) (going (c .before .before .before .before .before .before .before .before .before .before .before .before .before .before .before .before .before .before .before .before .before .before .before .before .before .before .before .before)) (c .before .if19 .taken) ((fitted (c .before .before .before .before .before .before .before .before .before .before .before .before .before .before .before .before .before .before .before .before .before .before .before .before .before .before .before .before .before .before .before .before .before .before .before .before .before .before .before .before .before)) .head .keys) in omega (arith, h)
-
--- src/lib.rt:226:23
-add-o-4 : tie.Need-add-o-4
-add-o-4 c =
-    let a = c .before .before .before .before .before .before .before .before .before .before .before .before .before .before .before .before .before .before .before .before .before .before .before .before .before .before .before .before .before .before .before .before .before .before .before .before .before .before .before .before .before .before .before .before .before .before .before .before .before .before .before .before .before .before .before .before .before .before .before .before .before .before .args in
-    let h : a .s .«key_count» < 128 = key-place (central (a .s)) (a .store .now) (adv (a .at) (a .channel) (a .pdu) (a .address) (a .«data» .now) (a .to-central)) (c .before .before .before .before .before .before .before .before .before .before .before .before .before .before .before .before .before .before .before .before .before .before .before .before .before .before .before .before .before .before .before .before .before .before .key-of .result) (c .before .before .before .before .before .before .before .before .before .before .before .before .before .before .before .before .before .before .before .before .before .before .before .before .before .before .before .before .before .before .is-due .result) (going (c .before .before .before .before .before .before .before .before .before .before .before .before .before .before .before .before .before .before .before .before .before .before .before .before .before .before .before .before)) (c .before .if19 .taken) ((fitted (c .before .before .before .before .before .before .before .before .before .before .before .before .before .before .before .before .before .before .before .before .before .before .before .before .before .before .before .before .before .before .before .before .before .before .before .before .before .before .before .before .before)) .head .keys) in omega (arith, h)
-
--- src/lib.rt:227:9
-same-length-5 : tie.Need-same-length-5
-same-length-5 c = search needs
-
--- src/lib.rt:227:9
-returns-15 : tie.Need-returns-15
-returns-15 c =
-    let a = c .before .before .before .before .before .before .before .before .before .before .before .before .before .before .before .before .before .before .before .before .before .before .before .before .before .before .before .before .before .before .before .before .before .before .before .before .before .before .before .before .before .before .before .before .before .before .before .before .before .before .before .before .before .before .before .before .before .before .before .before .before .before .args in
-    full-asked (central (a .s)) (a .store .now) _ (adv (a .at) (a .channel) (a .pdu) (a .address) (a .«data» .now) (a .to-central)) (c .before .before .before .before .before .before .before .before .before .before .before .before .before .before .before .before .before .before .before .before .before .before .before .before .before .before .before .before .before .before .before .before .before .before .key-of .result) (c .before .before .before .before .before .before .before .before .before .before .before .before .before .before .before .before .before .before .before .before .before .before .before .before .before .before .before .before .before .before .is-due .result) (going (c .before .before .before .before .before .before .before .before .before .before .before .before .before .before .before .before .before .before .before .before .before .before .before .before .before .before .before .before)) (c .before .before .before .before .before .before .before .before .before .before .before .before .before .before .before .before .before .before .before .before .before .before .before .before .find .result) (c .before .before .before .before .before .before .before .before .before .before .before .before .before .before .before .before .before .before .before .before .before .before .before .before .before .before .before .narrow .result) (c .before .before .before .before .before .before .before .before .before .before .before .before .before .before .before .before .before .before .before .before .before .before .before .before .before .before .before .narrow .ensures) (c .before .before .before .before .before .before .before .before .before .before .before .before .before .before .before .before .before .before .before .before .before .before .before .before .find .ensures .0) _ _ _ _ _ _ _ (whole (c .before .before .before .before .before .before .before .before .before .before .before .before .before .before .before .before .before .before .before .before .before .before .before .before .before .before .before .before .before .before .before .before .before .before .before .before .before .before .before .before .before .before .before .before .before .before .before .before .before .before .before .before .before .before .before .before .before .before .before .before .before .before)) ((fitted (c .before .before .before .before .before .before .before .before .before .before .before .before .before .before .before .before .before .before .before .before .before .before .before .before .before .before .before .before .before .before .before .before .before .before .before .before .before .before .before .before .before)) .head .reports) (c .before .before .before .before .before .before .before .before .before .before .before .before .before .before .before .before .before .before .before .before .before .before .before .if15 .left) (c .before .before .before .before .before .before .before .before .before .before .before .before .before .before .before .before .before .before .before .before .before .before .if17 .left) (record { whoDown = c .before .before .before .before .before .before .before .before .before .before .before .before .before .before .before .before .before .before .before .before .shift-words .ensures; atDown = c .before .before .before .before .before .before .before .before .before .before .before .before .before .before .before .before .before .before .shift-words2 .ensures; channelDown = c .before .before .before .before .before .before .before .before .before .before .before .before .before .before .before .before .shift-bytes .ensures; pduDown = c .before .before .before .before .before .before .before .before .before .before .before .before .before .before .shift-bytes2 .ensures; lenDown = c .before .before .before .before .before .before .before .before .before .before .before .before .shift-bytes3 .ensures; responseDown = c .before .before .before .before .before .before .before .before .before .before .shift-bytes4 .ensures }) (c .before .before .before .before .before .before .before .before .drop-block .ensures) (c .before .before .before .before .put-data3 .ensures) (c .before .if19 .taken)
-
--- src/lib.rt:233:9
-choose-requires-3 : tie.Need-choose-requires-3
-choose-requires-3 c κs =
-    let a = c .before .before .before .before .before .before .before .before .before .before .before .before .before .before .before .before .before .before .before .before .before .before .before .before .before .before .before .before .before .before .before .before .before .before .before .before .before .before .before .before .before .before .before .before .before .before .before .before .before .before .before .before .before .before .before .before .before .before .before .before .before .before .args in
-    (again-length 63 (a .«data» .now) _ _ (c .before .before .before .before .put-data3 .ensures) (lowered-length (a .store .now) _ (c .before .before .before .before .before .before .before .before .drop-block .ensures) (short (c .before .before .before .before .before .before .before .before .before .before .before .before .before .before .before .before .before .before .before .before .before .before .before .before .before .before .before .before .before .before .before .before .before .before .before .before .before) .gate .store)), omega arith)
-
--- src/lib.rt:60:1
-same-length-6 : tie.Need-same-length-6
-same-length-6 c = search needs
-
--- src/lib.rt:60:1
-returns-16 : tie.Need-returns-16
-returns-16 c =
-    let a = c .before .before .before .before .before .before .before .before .before .before .before .before .before .before .before .before .before .before .before .before .before .before .before .before .before .before .before .before .before .before .before .before .before .before .before .before .before .before .before .before .before .before .before .before .before .before .before .before .before .before .before .before .before .before .before .before .before .before .before .before .before .before .before .args in
-    full-chosen (central (a .s)) (a .store .now) _ (adv (a .at) (a .channel) (a .pdu) (a .address) (a .«data» .now) (a .to-central)) (c .before .before .before .before .before .before .before .before .before .before .before .before .before .before .before .before .before .before .before .before .before .before .before .before .before .before .before .before .before .before .before .before .before .before .before .key-of .result) (c .before .before .before .before .before .before .before .before .before .before .before .before .before .before .before .before .before .before .before .before .before .before .before .before .before .before .before .before .before .before .before .is-due .result) (going (c .before .before .before .before .before .before .before .before .before .before .before .before .before .before .before .before .before .before .before .before .before .before .before .before .before .before .before .before .before)) (c .before .before .before .before .before .before .before .before .before .before .before .before .before .before .before .before .before .before .before .before .before .before .before .before .before .find .result) (c .before .before .before .before .before .before .before .before .before .before .before .before .before .before .before .before .before .before .before .before .before .before .before .before .before .before .before .before .narrow .result) (c .before .before .before .before .before .before .before .before .before .before .before .before .before .before .before .before .before .before .before .before .before .before .before .before .before .before .before .before .narrow .ensures) (c .before .before .before .before .before .before .before .before .before .before .before .before .before .before .before .before .before .before .before .before .before .before .before .before .before .find .ensures .0) _ _ _ _ _ _ _ (whole (c .before .before .before .before .before .before .before .before .before .before .before .before .before .before .before .before .before .before .before .before .before .before .before .before .before .before .before .before .before .before .before .before .before .before .before .before .before .before .before .before .before .before .before .before .before .before .before .before .before .before .before .before .before .before .before .before .before .before .before .before .before .before .before)) ((fitted (c .before .before .before .before .before .before .before .before .before .before .before .before .before .before .before .before .before .before .before .before .before .before .before .before .before .before .before .before .before .before .before .before .before .before .before .before .before .before .before .before .before .before)) .head .reports) (c .before .before .before .before .before .before .before .before .before .before .before .before .before .before .before .before .before .before .before .before .before .before .before .before .if15 .left) (c .before .before .before .before .before .before .before .before .before .before .before .before .before .before .before .before .before .before .before .before .before .before .before .if17 .left) (record { whoDown = c .before .before .before .before .before .before .before .before .before .before .before .before .before .before .before .before .before .before .before .before .before .shift-words .ensures; atDown = c .before .before .before .before .before .before .before .before .before .before .before .before .before .before .before .before .before .before .before .shift-words2 .ensures; channelDown = c .before .before .before .before .before .before .before .before .before .before .before .before .before .before .before .before .before .shift-bytes .ensures; pduDown = c .before .before .before .before .before .before .before .before .before .before .before .before .before .before .before .shift-bytes2 .ensures; lenDown = c .before .before .before .before .before .before .before .before .before .before .before .before .before .shift-bytes3 .ensures; responseDown = c .before .before .before .before .before .before .before .before .before .before .before .shift-bytes4 .ensures }) (c .before .before .before .before .before .before .before .before .before .drop-block .ensures) (c .before .before .before .before .before .put-data3 .ensures) _ (c .before .before .if19 .left) (c .choose3 .ensures)
+-- src/lib.rt:30:1
+returns-6 : tie.Need-returns-6
+returns-6 c =
+    let a = c .before .before .before .before .before .before .before .before .before .before .before .before .before .before .before .before .before .before .before .before .before .before .before .before .before .before .before .before .before .before .before .before .before .before .before .before .before .before .before .before .before .before .before .before .before .before .before .before .before .before .before .before .before .before .before .before .before .before .before .before .args in
+    put-chosen (central (a .s)) (a .store .now) _ (adv (a .at) (a .channel) (a .pdu) (a .address) (a .«data» .now) (a .to-central)) (c .before .before .before .before .before .before .before .before .before .before .before .before .before .before .before .before .before .before .before .before .before .before .before .before .before .before .before .before .before .before .before .before .before .before .key-of .result) (c .before .before .before .before .before .before .before .before .before .before .before .before .before .before .before .before .before .before .before .before .before .before .before .before .before .before .before .before .before .before .is-due .result) (going (c .before .before .before .before .before .before .before .before .before .before .before .before .before .before .before .before .before .before .before .before .before .before .before .before .before .before .before .before)) (c .before .before .before .before .before .before .before .before .before .before .before .before .before .before .before .before .before .before .before .before .before .before .before .before .before .find .result) (c .before .before .before .before .before .before .before .before .before .before .before .before .narrow .result) (c .before .before .before .before .before .before .before .before .before .before .before .before .before .before .before .before .before .before .before .before .before .before .kept-response .result) (c .before .before .before .before .counted .result) (c .before .before .before .before .before .before .before .before .before .before .before .before .narrow .ensures) (c .before .before .before .before .before .before .before .before .before .before .before .before .before .before .before .before .before .before .before .before .before .before .before .before .before .find .ensures .0) (c .before .before .before .before .before .before .before .before .before .before .before .before .before .before .before .before .before .before .before .before .before .before .before .before .before .find .ensures .1) ((short (c .before .before .before .before .before .before .before .before .before .before .before .before .before .before .before .before .before .before .before .before .before .before .before .before .before .before .before .before .before .before .before .before .before .before .before .before .before) .gate .fit) .head .reports) (whole (c .before .before .before .before .before .before .before .before .before .before .before .before .before .before .before .before .before .before .before .before .before .before .before .before .before .before .before .before .before .before .before .before .before .before .before .before .before .before .before .before .before .before .before .before .before .before .before .before .before .before .before .before .before .before .before .before .before .before .before .before)) _ _ _ _ _ _ (record { whoPut = c .before .before .before .before .before .before .before .before .before .before .before .before .before .before .before .before .before .before .before .before .put-word .ensures; atPut = c .before .before .before .before .before .before .before .before .before .before .before .before .before .before .before .before .before .before .put-word2 .ensures; channelPut = c .before .before .before .before .before .before .before .before .before .before .before .before .before .before .before .before .put-byte .ensures; pduPut = c .before .before .before .before .before .before .before .before .before .before .before .before .before .before .put-byte2 .ensures; lenPut = c .before .before .before .before .before .before .before .before .before .before .before .put-byte3 .ensures; responsePut = c .before .before .before .before .before .before .before .before .before .put-byte4 .ensures }) (c .before .before .before .before .before .before .before .before .before .before .before .before .before .before .before .before .before .before .before .before .before .before .kept-response .ensures) (c .before .before .before .before .counted .ensures) (c .before .before .before .before .before .before .before .put-block .ensures) (c .before .before .last-place .result) _ (c .before .before .before .if9 .left) (c .before .before .last-place .ensures) (c .choose .ensures)
 
 pub on-advertising-spec : {M : Type 1} → statement M
 on-advertising-spec =
@@ -532,91 +297,42 @@ on-advertising-spec =
     unchanged-requires
     returns
     lengths-fit-requires
-    unchanged-requires-2
-    returns-2
     lengths-fit-requires-2
-    unchanged-requires-3
-    returns-3
     steps-fit-requires
-    unchanged-requires-4
-    returns-4
     results-fit-requires
-    unchanged-requires-5
-    returns-5
     is-rising-requires
-    unchanged-requires-6
-    returns-6
     values-fit-requires
-    unchanged-requires-7
-    returns-7
     too-late-requires
     first-refusal-requires
     then-data-requires
-    unchanged-requires-8
-    returns-8
+    unchanged-requires-2
+    returns-2
     is-listening-requires
-    unchanged-requires-9
-    returns-9
+    unchanged-requires-3
+    returns-3
     key-of-requires
     is-asking-requires
     is-due-requires
     keys-full-requires
-    unchanged-requires-10
-    returns-10
-    narrow-requires
+    unchanged-requires-4
+    returns-4
     find-requires
-    mul-h
-    element-write-h
-    element-write-h-2
-    element-write-h-3
-    element-write-h-4
-    put-data-requires
+    kept-response-requires
+    put-word-requires
+    put-word-requires-2
+    put-byte-requires
+    put-byte-requires-2
+    narrow-requires
+    put-byte-requires-3
+    put-byte-requires-4
+    put-block-requires
+    counted-requires
     mul-more
     array-write-more
     add-o
     same-length
-    returns-11
-    element-copy-out-response
+    returns-5
+    last-place-requires
     choose-requires
     same-length-2
-    returns-12
-    mul-who
-    array-write-who
-    mul-h-2
-    element-write-h-5
-    element-write-h-6
-    element-write-h-7
-    element-write-h-8
-    element-write-h-9
-    put-data-requires-2
-    add-o-2
-    mul-more-2
-    array-write-more-2
-    add-o-3
-    same-length-3
-    returns-13
-    choose-requires-2
-    same-length-4
-    returns-14
-    shift-words-requires
-    shift-words-requires-2
-    shift-bytes-requires
-    shift-bytes-requires-2
-    shift-bytes-requires-3
-    shift-bytes-requires-4
-    array-write-who-2
-    element-write-h-10
-    element-write-h-11
-    element-write-h-12
-    element-write-h-13
-    element-write-h-14
-    drop-block-requires
-    put-data-requires-3
-    mul-more-3
-    array-write-more-3
-    add-o-4
-    same-length-5
-    returns-15
-    choose-requires-3
-    same-length-6
-    returns-16)
+    returns-6)
