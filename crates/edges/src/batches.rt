@@ -1,10 +1,9 @@
 // What a batch may be: 64 steps, an MTU of 247, a value of 244 bytes that lies inside the lent ones.
 use crate::known;
+use calls::Answer;
 use state::Step;
 use time::Micros;
 use time::Millis;
-use waiting::Batch;
-use waiting::Placed;
 
 const WAIT: Step = Step::Wait { ms: Millis(1) };
 
@@ -13,63 +12,76 @@ const WRITE: Step = Step::Write {
     with_response: true,
 };
 
-fn alike(step: Step, count: usize, place: usize, len: usize) -> Batch {
-    Batch {
-        steps: [Placed { step, place, len }; 64],
-        count,
-    }
+fn tell(what: &[u8], why: u8, waiting: usize, state: bool, store: bool) {
+    say::text(what);
+    known::refusal(why);
+    say::told(b", waiting ", waiting as u64, b"");
+    known::kept(state, store);
 }
 
-// A batch given to a fresh state.
-fn push(what: &[u8], b: Batch, values: &[u8]) {
+// The number of a fresh state.
+fn fresh() -> u64 {
+    digest::of_state(state::fresh::fresh())
+}
+
+// What a fresh state's call gave, and whether it left the store as it was.
+fn answered(what: &[u8], a: Answer, store: bool) {
+    let left = a.state;
+    tell(
+        what,
+        a.refusal,
+        left.counts.waiting,
+        digest::of_state(left) == fresh(),
+        store,
+    );
+}
+
+// A batch of steps that are alike, given to a fresh state.
+fn push(what: &[u8], step: Step, count: usize, place: usize, len: usize) {
     let mut store = [0u8; places::STORE_SIZE];
     let mut out = [0u8; places::OUTPUT_SIZE];
-    let s = state::fresh::fresh();
+    let values = [7u8; 300];
     let stored = digest::of_lent(&store);
-    let a = batch::push_steps(s, &mut store, &mut out, Micros(0), b, values);
-    let state = a.state;
-    let n = state.counts;
-    say::text(what);
-    say::told(b": refusal ", a.refusal as u64, b"");
-    say::told(b", waiting ", n.waiting as u64, b"");
-    known::same(b"; state", digest::of_state(s) == digest::of_state(state));
-    known::same(b", store", digest::of_lent(&store) == stored);
-    say::line(b"");
+    let a = known::push(
+        state::fresh::fresh(),
+        &mut store,
+        &mut out,
+        Micros(0),
+        step,
+        count,
+        place,
+        len,
+        &values,
+    );
+    answered(what, a, digest::of_lent(&store) == stored);
 }
 
 pub fn all() {
-    let values = [7u8; 300];
     say::line(b"A batch");
-    push(b"  of 64 steps", alike(WAIT, 64, 0, 0), &values);
-    push(b"  of 65 steps", alike(WAIT, 65, 0, 0), &values);
+    push(b"  of 64 steps", WAIT, 64, 0, 0);
+    push(b"  of 65 steps", WAIT, 65, 0, 0);
     push(
         b"  with an MTU of 247",
-        alike(Step::ExchangeMtu { mtu: 247 }, 2, 0, 0),
-        &values,
+        Step::ExchangeMtu { mtu: 247 },
+        2,
+        0,
+        0,
     );
     push(
         b"  with an MTU of 248",
-        alike(Step::ExchangeMtu { mtu: 248 }, 2, 0, 0),
-        &values,
+        Step::ExchangeMtu { mtu: 248 },
+        2,
+        0,
+        0,
     );
-    push(
-        b"  with a value of 244 bytes",
-        alike(WRITE, 2, 0, 244),
-        &values,
-    );
-    push(
-        b"  with a value of 245 bytes",
-        alike(WRITE, 2, 0, 245),
-        &values,
-    );
+    push(b"  with a value of 244 bytes", WRITE, 2, 0, 244);
+    push(b"  with a value of 245 bytes", WRITE, 2, 0, 245);
     push(
         b"  with a value that ends with the lent bytes",
-        alike(WRITE, 2, 100, 200),
-        &values,
+        WRITE,
+        2,
+        100,
+        200,
     );
-    push(
-        b"  with a value that ends a byte later",
-        alike(WRITE, 2, 101, 200),
-        &values,
-    );
+    push(b"  with a value that ends a byte later", WRITE, 2, 101, 200);
 }

@@ -1,5 +1,6 @@
 // What is held of a frame is 251 bytes at most; with more it is refused and dropped.
 use crate::known;
+use calls::Answer;
 use state::State;
 use time::Micros;
 
@@ -10,10 +11,19 @@ const TOO_LONG: usize = 252;
 // Bytes of a notification's frame before its value.
 const HEAD: usize = 7;
 
-// A notification on the known handle that fills the frame.
-fn fill(frame: &mut [u8]) {
+// Frames of 252 bytes, then of 251.
+fn length(i: u32) -> usize {
+    if i < 3 { TOO_LONG } else { LONGEST }
+}
+
+// Of each a fragment that leaves out the last byte, then the last byte; of the first the last byte once more.
+fn is_start(i: u32) -> bool {
+    (i == 0) | (i == 3)
+}
+
+// A notification on the known handle that fills so much of the bytes.
+fn fill(frame: &mut [u8], n: usize) {
     let value = [7u8; TOO_LONG - HEAD];
-    let n = frame.len();
     if HEAD <= n {
         wire::att_frame(
             frame,
@@ -27,111 +37,92 @@ fn fill(frame: &mut [u8]) {
     }
 }
 
-// The bytes before a place, and those from there on.
-fn before(s: &[u8], n: usize) -> &[u8] {
-    if s.len() < n {
-        return &s[0..];
+fn fragment(frame: &[u8], n: usize, start: bool) -> &[u8] {
+    if frame.len() < n {
+        return &frame[0..0];
     }
-    &s[0..n]
-}
-
-fn from(s: &[u8], n: usize) -> &[u8] {
-    if s.len() < n {
-        return &s[0..0];
+    if n == 0 {
+        return &frame[0..0];
     }
-    &s[n..]
+    let last = n - 1;
+    if start {
+        return &frame[0..last];
+    }
+    &frame[last..n]
 }
 
-fn tell_state(s: State) {
-    let b = s.bearer;
-    let k = s.counters;
-    say::told(b", held ", b.held as u64, b"");
-    say::told(b", notified ", k.notified, b"");
+fn text(i: u32) {
+    match i {
+        0 => say::text(b"Of a frame of 252 bytes the first 251"),
+        2 => say::text(b"  the last one again, with nothing held"),
+        3 => say::text(b"Of a frame of 251 bytes the first 250"),
+        _ => say::text(b"  the last one"),
+    }
 }
 
-// Whether two states are one but for the number of bytes held.
-fn alike(a: State, b: State) -> bool {
-    let x = digest::of_state(fragments::with_held(a, 0));
-    x == digest::of_state(fragments::with_held(b, 0))
+// The number of a state but for the number of bytes held.
+fn rest(s: State) -> u64 {
+    digest::of_state(fragments::with_held(s, 0))
+}
+
+fn tell(i: u32, why: u8, held: usize, notified: u64, state: bool) {
+    text(i);
+    known::refusal(why);
+    say::told(b", held ", held as u64, b"");
+    say::told(b", notified ", notified, b"");
+    known::same(b"; the rest of the state", state);
+}
+
+fn answered(a: Answer, i: u32, before: u64) -> State {
+    let left = a.state;
+    tell(
+        i,
+        a.refusal,
+        left.bearer.held,
+        left.counters.notified,
+        rest(left) == before,
+    );
+    left
+}
+
+fn kept(store: bool, out: bool) {
+    known::same(b", store", store);
+    known::same(b", output", out);
+    say::line(b"");
+}
+
+fn hear(s: State, store: &mut [u8], out: &mut [u8], i: u32) -> Answer {
+    let mut frame = [0u8; TOO_LONG];
+    fill(&mut frame, length(i));
+    let start = is_start(i);
+    let part = fragment(&frame, length(i), start);
+    link::on_fragment(s, store, out, Micros(1000), start, part)
 }
 
 // A fragment comes in, and what that did.
-fn give(
-    what: &[u8],
-    s: State,
-    store: &mut [u8],
-    out: &mut [u8],
-    start: bool,
-    fragment: &[u8],
-) -> State {
+fn give(s: State, store: &mut [u8], out: &mut [u8], i: u32) -> State {
     let stored = digest::of_lent(store);
     let written = digest::of_lent(out);
-    let a = link::on_fragment(s, store, out, Micros(1000), start, fragment);
-    let state = a.state;
-    say::text(what);
-    say::told(b": refusal ", a.refusal as u64, b"");
-    tell_state(state);
-    known::same(b"; the rest of the state", alike(s, state));
-    known::same(b", store", digest::of_lent(store) == stored);
-    known::same(b", output", digest::of_lent(out) == written);
-    say::line(b"");
-    state
-}
-
-// A frame in two fragments, the second of one byte.
-fn in_two(
-    first: &[u8],
-    second: &[u8],
-    s: State,
-    store: &mut [u8],
-    out: &mut [u8],
-    frame: &[u8],
-    n: usize,
-) -> State {
-    let a = give(first, s, store, out, true, before(frame, n));
-    give(second, a, store, out, false, from(frame, n))
-}
-
-fn up_to_the_edge(s: State, store: &mut [u8], out: &mut [u8]) -> State {
-    let mut frame = [0u8; LONGEST];
-    fill(&mut frame);
-    in_two(
-        b"Of a frame of 251 bytes the first 250",
-        b"  the last one",
-        s,
-        store,
-        out,
-        &frame,
-        LONGEST - 1,
-    )
-}
-
-fn past_the_edge(s: State, store: &mut [u8], out: &mut [u8]) -> State {
-    let mut frame = [0u8; TOO_LONG];
-    fill(&mut frame);
-    let a = in_two(
-        b"Of a frame of 252 bytes the first 251",
-        b"  the last one",
-        s,
-        store,
-        out,
-        &frame,
-        LONGEST,
+    let left = answered(hear(s, store, out, i), i, rest(s));
+    kept(
+        digest::of_lent(store) == stored,
+        digest::of_lent(out) == written,
     );
-    give(
-        b"  the last one again, with nothing held",
-        a,
-        store,
-        out,
-        false,
-        from(&frame, LONGEST),
-    )
+    left
+}
+
+fn give_all(s: State, store: &mut [u8], out: &mut [u8]) {
+    let mut x = s;
+    let mut i = 0;
+    while i < 5 {
+        x = give(x, store, out, i);
+        i += 1;
+    }
 }
 
 pub fn all() {
     let mut store = [0u8; places::STORE_SIZE];
     let mut out = [0u8; places::OUTPUT_SIZE];
     let s = known::linked(&mut store, &mut out);
-    let a = past_the_edge(s, &mut store, &mut out);
-    up_to_the_edge(a, &mut store, &mut out);
+    give_all(s, &mut store, &mut out);
 }

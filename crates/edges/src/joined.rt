@@ -1,5 +1,6 @@
 // A wait looks for its bytes in all that one handle notified, joined.
 use crate::known;
+use readers::Given;
 use state::State;
 use state::Step;
 use time::Micros;
@@ -14,43 +15,54 @@ const SECOND: [u8; 9] = [0x05, 0x00, 0x04, 0x00, 0x1B, 0x03, 0x00, 0x45, 0x45];
 
 const ELSEWHERE: [u8; 9] = [0x05, 0x00, 0x04, 0x00, 0x1B, 0x06, 0x00, 0x45, 0x45];
 
-// The wait begins.
-fn begin(s: State, store: &mut [u8], out: &mut [u8]) -> State {
-    let bytes = AWAITED;
-    let step = Step::WaitNotification {
-        characteristic: known::LEVEL,
-        within_ms: Millis(1000),
-    };
+const WAIT: Step = Step::WaitNotification {
+    characteristic: known::LEVEL,
+    within_ms: Millis(1000),
+};
+
+fn begun(bytes: &[u8], why: u8) {
     say::told(
         b"A wait on handle ",
         known::LEVEL_HANDLE as u64,
         b" for bytes that contain",
     );
-    say::bytes(&bytes);
-    let a = batch::push_steps(s, store, out, Micros(1000), known::one(step, 2), &bytes);
-    let state = a.state;
-    say::told(b": refusal ", a.refusal as u64, b"\n");
-    state
+    say::bytes(bytes);
+    known::refusal(why);
+    say::line(b"");
 }
 
-// A notification comes in: whether the wait is over.
+// The wait begins.
+fn begin(store: &mut [u8], out: &mut [u8]) -> State {
+    let bytes = AWAITED;
+    let s = known::linked(store, out);
+    let a = known::push(s, store, out, Micros(1000), WAIT, 1, 0, 2, &bytes);
+    begun(&bytes, a.refusal);
+    let left = a.state;
+    left
+}
+
+// Whether the wait is over.
+fn told(why: u8, g: Given, store: &[u8]) {
+    say::told(b"    refusal ", why as u64, b"\n");
+    if !tells::result(0, g, store) {
+        say::line(b"    step 0 waits on");
+    }
+}
+
+// A notification comes in.
 fn hear(s: State, store: &mut [u8], out: &mut [u8], at: Micros, frame: &[u8]) -> State {
     tells::heard(frame);
     let a = link::on_fragment(s, store, out, at, true, frame);
-    let state = a.state;
-    say::told(b"    refusal ", a.refusal as u64, b"\n");
-    if !tells::result(0, readers::result(state, store, 0), store) {
-        say::line(b"    step 0 waits on");
-    }
-    state
+    let left = a.state;
+    told(a.refusal, readers::result(left, store, 0), store);
+    left
 }
 
 fn pair(second: &[u8]) {
     let mut store = [0u8; places::STORE_SIZE];
     let mut out = [0u8; places::OUTPUT_SIZE];
     let first = FIRST;
-    let linked = known::linked(&mut store, &mut out);
-    let s = begin(linked, &mut store, &mut out);
+    let s = begin(&mut store, &mut out);
     let a = hear(s, &mut store, &mut out, Micros(2000), &first);
     hear(a, &mut store, &mut out, Micros(3000), second);
 }

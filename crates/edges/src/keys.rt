@@ -15,6 +15,8 @@ const DATA: [u8; 3] = [0x02, 0x01, 0x06];
 
 const OTHER_DATA: [u8; 3] = [0x02, 0x01, 0x04];
 
+const SCAN: Step = Step::Scan { ms: Millis(60_000) };
+
 // A state whose Scan has heard so many advertisers, and how many of them it asked.
 struct Heard {
     state: State,
@@ -23,13 +25,15 @@ struct Heard {
 
 fn scanning(store: &mut [u8]) -> State {
     let mut out = [0u8; places::OUTPUT_SIZE];
-    let step = Step::Scan { ms: Millis(60_000) };
-    let a = batch::push_steps(
+    let a = known::push(
         state::fresh::fresh(),
         store,
         &mut out,
         Micros(0),
-        known::one(step, 0),
+        SCAN,
+        1,
+        0,
+        0,
         b"",
     );
     let state = a.state;
@@ -44,36 +48,38 @@ fn address(low: u32) -> Address {
     }
 }
 
-fn is_asked(x: AdvAction) -> bool {
+// How many advertisers are asked by it: one or none.
+fn asked(x: AdvAction) -> u64 {
     match x {
-        AdvAction::Nothing => false,
-        AdvAction::ScanRequest => true,
+        AdvAction::Nothing => 0,
+        AdvAction::ScanRequest => 1,
         AdvAction::Connect {
             interval: _,
             latency: _,
             timeout: _,
-        } => false,
-    }
-}
-
-fn more(n: u64, yes: bool) -> u64 {
-    if yes {
-        std::num::wrapping_add_u64(n, 1)
-    } else {
-        n
+        } => 0,
     }
 }
 
 // Advertiser n speaks.
-fn hear(h: Heard, store: &mut [u8], n: u32, pdu: u8) -> Heard {
+fn hear(h: Heard, store: &mut [u8], n: u32) -> Heard {
     let data = DATA;
     let was = h.state;
-    let a = radio::on_advertising(was, store, Micros(1000), 37, pdu, address(n), &data, false);
+    let a = radio::on_advertising(
+        was,
+        store,
+        Micros(1000),
+        37,
+        ADV_IND,
+        address(n),
+        &data,
+        false,
+    );
     let state = a.state;
     let action = a.action;
     Heard {
         state,
-        asked: more(h.asked, is_asked(action)),
+        asked: std::num::wrapping_add_u64(h.asked, asked(action)),
     }
 }
 
@@ -82,61 +88,101 @@ fn hear_all(h: Heard, store: &mut [u8]) -> Heard {
     let mut x = h;
     let mut n = 0;
     while n < 128 {
-        x = hear(x, store, n, ADV_IND);
+        x = hear(x, store, n);
         n += 1;
     }
     x
 }
 
-fn tell_action(x: AdvAction) {
-    if is_asked(x) {
-        say::text(b", is asked");
-    } else {
-        say::text(b", is not asked");
+fn tell_heard(asked: u64, keys: usize, reports: usize) {
+    say::told(b"A Scan hears 128 advertisers and asks ", asked, b"");
+    say::told(b", keys kept ", keys as u64, b", reports kept ");
+    say::told(b"", reports as u64, b"\n");
+}
+
+// A state whose Scan has asked 128 advertisers.
+fn full(store: &mut [u8]) -> State {
+    let begun = Heard {
+        state: scanning(store),
+        asked: 0,
+    };
+    let h = hear_all(begun, store);
+    let s = h.state;
+    tell_heard(h.asked, s.key_count, s.reports);
+    s
+}
+
+// Then four more speak.
+fn text(i: u32) {
+    match i {
+        0 => say::text(b"  a new one, scannable"),
+        1 => say::text(b"  the last of the 128"),
+        2 => say::text(b"  the first of them, whose report went"),
+        _ => say::text(b"  a new one, not scannable"),
     }
 }
 
+fn number(i: u32) -> u32 {
+    match i {
+        0 => 128,
+        1 => 127,
+        2 => 0,
+        _ => 128,
+    }
+}
+
+fn pdu(i: u32) -> u8 {
+    if i < 3 { ADV_IND } else { ADV_NONCONN_IND }
+}
+
+fn tell(i: u32, why: u8, asked: u64, state: bool, store: bool) {
+    text(i);
+    known::refusal(why);
+    if asked == 0 {
+        say::text(b", is not asked");
+    } else {
+        say::text(b", is asked");
+    }
+    known::kept(state, store);
+}
+
 // One more speaks, or one says something else: what comes of it.
-fn one_more(what: &[u8], s: State, store: &mut [u8], n: u32, pdu: u8) -> State {
+fn one_more(s: State, store: &mut [u8], i: u32) -> State {
     let data = OTHER_DATA;
-    let before = digest::of_lent(store);
-    let a = radio::on_advertising(s, store, Micros(2000), 37, pdu, address(n), &data, false);
-    let state = a.state;
+    let stored = digest::of_lent(store);
+    let a = radio::on_advertising(
+        s,
+        store,
+        Micros(2000),
+        37,
+        pdu(i),
+        address(number(i)),
+        &data,
+        false,
+    );
+    let left = a.state;
     let action = a.action;
-    say::text(what);
-    say::told(b": refusal ", a.refusal as u64, b"");
-    tell_action(action);
-    known::same(b"; state", digest::of_state(s) == digest::of_state(state));
-    known::same(b", store", digest::of_lent(store) == before);
-    say::line(b"");
-    state
+    tell(
+        i,
+        a.refusal,
+        asked(action),
+        digest::of_state(s) == digest::of_state(left),
+        digest::of_lent(store) == stored,
+    );
+    left
+}
+
+fn four_more(s: State, store: &mut [u8]) {
+    let mut x = s;
+    let mut i = 0;
+    while i < 4 {
+        x = one_more(x, store, i);
+        i += 1;
+    }
 }
 
 pub fn all() {
     let mut store = [0u8; places::STORE_SIZE];
-    let begun = Heard {
-        state: scanning(&mut store),
-        asked: 0,
-    };
-    let h = hear_all(begun, &mut store);
-    let s = h.state;
-    say::told(b"A Scan hears 128 advertisers and asks ", h.asked, b"");
-    say::told(b", keys kept ", s.key_count as u64, b", reports kept ");
-    say::told(b"", s.reports as u64, b"\n");
-    let a = one_more(b"  a new one, scannable", s, &mut store, 128, ADV_IND);
-    let b = one_more(b"  the last of the 128", a, &mut store, 127, ADV_IND);
-    let c = one_more(
-        b"  the first of them, whose report went",
-        b,
-        &mut store,
-        0,
-        ADV_IND,
-    );
-    one_more(
-        b"  a new one, not scannable",
-        c,
-        &mut store,
-        128,
-        ADV_NONCONN_IND,
-    );
+    let s = full(&mut store);
+    four_more(s, &mut store);
 }

@@ -1,4 +1,5 @@
-// What the programs begin with: a head's characteristic that is known, a link, a batch of one step.
+// What the programs begin with: a head's characteristic that is known, a link, a batch; and what they say of every call.
+use calls::Answer;
 use characteristics::Cccd;
 use characteristics::Characteristic;
 use characteristics::Characteristics;
@@ -42,15 +43,32 @@ pub fn linked(store: &mut [u8], out: &mut [u8]) -> State {
     state
 }
 
-pub fn one(step: Step, len: usize) -> Batch {
+// A batch of one step over and over, with one value.
+fn alike(step: Step, count: usize, place: usize, len: usize) -> Batch {
     Batch {
-        steps: [Placed {
-            step,
-            place: 0,
-            len,
-        }; 64],
-        count: 1,
+        steps: [Placed { step, place, len }; 64],
+        count,
     }
+}
+
+// It is handed in.
+pub fn push(
+    s: State,
+    store: &mut [u8],
+    out: &mut [u8],
+    at: Micros,
+    step: Step,
+    count: usize,
+    place: usize,
+    len: usize,
+    values: &[u8],
+) -> Answer {
+    let b = alike(step, count, place, len);
+    batch::push_steps(s, store, out, at, b, values)
+}
+
+pub fn refusal(why: u8) {
+    say::told(b": refusal ", why as u64, b"");
 }
 
 // Whether something is what it was.
@@ -61,4 +79,11 @@ pub fn same(what: &[u8], same: bool) {
     } else {
         say::text(b" changed");
     }
+}
+
+// Whether the state is, and the store.
+pub fn kept(state: bool, store: bool) {
+    same(b"; state", state);
+    same(b", store", store);
+    say::line(b"");
 }

@@ -1,5 +1,9 @@
 // A Write needs value + 3 <= MTU.
 use crate::known;
+use calls::Answer;
+use readers::Given;
+use state::Sent;
+use state::State;
 use state::Step;
 use time::Micros;
 
@@ -28,10 +32,27 @@ const VALUE: [u8; 21] = [
 ];
 
 fn told(kind: &[u8], len: usize, mtu: u16) {
-    say::text(b"A ");
     say::text(kind);
     say::told(b" of ", len as u64, b" bytes at an MTU of ");
-    say::told(b"", mtu as u64, b": ");
+    say::number(mtu as u64);
+}
+
+fn mtu_of(s: State) -> u16 {
+    s.bearer.link.mtu
+}
+
+// What the call told, and how step 0 ended, if it did.
+fn ended(why: u8, sent: Sent, out: &[u8], g: Given, store: &[u8]) {
+    known::refusal(why);
+    say::told(b", frames ", sent.frames as u64, b"\n");
+    tells::sent(sent, out);
+    tells::result(0, g, store);
+}
+
+fn answered(a: Answer, store: &[u8], out: &[u8]) {
+    let left = a.state;
+    let sent = a.sent;
+    ended(a.refusal, sent, out, readers::result(left, store, 0), store);
 }
 
 // A Write on a link just come up, so that its MTU is 23.
@@ -39,33 +60,29 @@ fn write(kind: &[u8], with_response: bool, len: usize) {
     let mut store = [0u8; places::STORE_SIZE];
     let mut out = [0u8; places::OUTPUT_SIZE];
     let value = VALUE;
-    let s = known::linked(&mut store, &mut out);
-    let bearer = s.bearer;
-    let link = bearer.link;
-    told(kind, len, link.mtu);
     let step = Step::Write {
         characteristic: known::LEVEL,
         with_response,
     };
-    let a = batch::push_steps(
+    let s = known::linked(&mut store, &mut out);
+    told(kind, len, mtu_of(s));
+    let a = known::push(
         s,
         &mut store,
         &mut out,
         Micros(1000),
-        known::one(step, len),
+        step,
+        1,
+        0,
+        len,
         &value,
     );
-    let left = a.state;
-    let sent = a.sent;
-    say::told(b"refusal ", a.refusal as u64, b"");
-    say::told(b", frames ", sent.frames as u64, b"\n");
-    tells::sent(sent, &out);
-    tells::result(0, readers::result(left, &store, 0), &store);
+    answered(a, &store, &out);
 }
 
 pub fn all() {
-    write(b"Write with response", true, 20);
-    write(b"Write with response", true, 21);
-    write(b"Write without response", false, 20);
-    write(b"Write without response", false, 21);
+    write(b"A Write with response", true, 20);
+    write(b"A Write with response", true, 21);
+    write(b"A Write without response", false, 20);
+    write(b"A Write without response", false, 21);
 }
