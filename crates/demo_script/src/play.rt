@@ -44,25 +44,23 @@ const ANSWERS_AFTER: Micros = Micros(10_000);
 // The story with the head's answers takes fewer turns.
 const MOST_TURNS: usize = 64;
 
-// The library's state, how many results have been told, how many notifications no wait has used up, how many bytes were sent.
+// How far the story is: what is next of itself, when the last thing was, how many results have been told, how many bytes were sent.
+struct Place {
+    next: usize,
+    now: Micros,
+    told: u32,
+    sent: usize,
+}
+
+// The library's state, and how far the story is.
 struct Play {
     state: State,
-    told: u32,
-    unused: u64,
-    sent: usize,
+    place: Place,
 }
 
 fn refused(why: u8) {
     if why != fit::refusal::ACCEPTED {
         say::told(b"    refused with ", why as u64, b"\n");
-    }
-}
-
-fn quiet(state: State, refusal: u8) -> Answer {
-    Answer {
-        state,
-        refusal,
-        sent: UNSENT,
     }
 }
 
@@ -78,24 +76,40 @@ fn action(x: AdvAction) {
     }
 }
 
-fn advertised(s: State, store: &mut [u8], now: Micros, who: Address, data: &[u8]) -> Answer {
-    let a = radio::on_advertising(s, store, now, CHANNEL, ADV_IND, who, data, false);
+fn who(head: bool) -> Address {
+    if head { HEAD } else { STRANGER }
+}
+
+fn advertised(s: State, store: &mut [u8], now: Micros, head: bool, data: &[u8]) -> Answer {
+    let a = radio::on_advertising(s, store, now, CHANNEL, ADV_IND, who(head), data, false);
     let state = a.state;
     let todo = a.action;
     action(todo);
-    quiet(state, a.refusal)
+    Answer {
+        state,
+        refusal: a.refusal,
+        sent: UNSENT,
+    }
 }
 
 fn responded(s: State, store: &mut [u8], now: Micros, data: &[u8]) -> Answer {
     let a = scan_responses::on_scan_response(s, store, now, HEAD, data);
     let state = a.state;
-    quiet(state, a.refusal)
+    Answer {
+        state,
+        refusal: a.refusal,
+        sent: UNSENT,
+    }
 }
 
 fn disconnected(s: State, store: &mut [u8], now: Micros) -> Answer {
     let a = events::on_disconnected(s, store, now);
     let state = a.state;
-    quiet(state, a.refusal)
+    Answer {
+        state,
+        refusal: a.refusal,
+        sent: UNSENT,
+    }
 }
 
 // The first n bytes, or all.
@@ -114,8 +128,23 @@ fn after(s: &[u8], n: usize) -> &[u8] {
     &s[n..]
 }
 
-fn fragment(which: &[u8], s: &[u8]) {
-    say::told(which, s.len() as u64, b" bytes of it come in\n");
+fn fragment(which: &[u8], n: usize) {
+    say::told(which, n as u64, b" bytes of it come in\n");
+}
+
+// The first fragment of a frame comes in.
+fn start(s: State, store: &mut [u8], out: &mut [u8], now: Micros, part: &[u8]) -> State {
+    fragment(b"      the first ", part.len());
+    let a = link::on_fragment(s, store, out, now, true, part);
+    let state = a.state;
+    refused(a.refusal);
+    state
+}
+
+// Then the last.
+fn last(s: State, store: &mut [u8], out: &mut [u8], now: Micros, part: &[u8]) -> Answer {
+    fragment(b"      the last ", part.len());
+    link::on_fragment(s, store, out, now, false, part)
 }
 
 // A frame comes in, as one fragment or as a start and a continuation.
@@ -123,31 +152,20 @@ fn heard(s: State, store: &mut [u8], out: &mut [u8], now: Micros, frame: &[u8]) 
     if frame.len() <= FRAGMENT {
         return link::on_fragment(s, store, out, now, true, frame);
     }
-    let start = first(frame, FRAGMENT);
-    let rest = after(frame, FRAGMENT);
-    fragment(b"      the first ", start);
-    let a = link::on_fragment(s, store, out, now, true, start);
-    let state = a.state;
-    refused(a.refusal);
-    fragment(b"      the last ", rest);
-    link::on_fragment(state, store, out, now, false, rest)
+    let state = start(s, store, out, now, first(frame, FRAGMENT));
+    last(state, store, out, now, after(frame, FRAGMENT))
 }
 
 // The call that the library gets.
 fn act(s: State, store: &mut [u8], out: &mut [u8], now: Micros, what: What, data: &[u8]) -> Answer {
     match what {
-        What::Script => batch::push_steps(s, store, out, now, steps::whole(), b""),
-        What::Again => batch::push_steps(s, store, out, now, steps::again(), b""),
-        What::Stranger => advertised(s, store, now, STRANGER, data),
-        What::Head => advertised(s, store, now, HEAD, data),
+        What::Script { first } => batch::push_steps(s, store, out, now, steps::of(first), b""),
+        What::Advert { head } => advertised(s, store, now, head, data),
         What::Response => responded(s, store, now, data),
         What::Timer => events::on_timer(s, store, out, now),
         What::Connected => events::on_connected(s, store, out, HANDLE, now),
-        What::Taken => heard(s, store, out, now, data),
-        What::Free => heard(s, store, out, now, data),
-        What::Answers => heard(s, store, out, now, data),
+        What::Frame { why: _ } => heard(s, store, out, now, data),
         What::Disconnected => disconnected(s, store, now),
-        What::End => quiet(s, 0),
     }
 }
 
@@ -165,97 +183,110 @@ fn results(s: State, store: &[u8], from: u32) -> u32 {
     index
 }
 
-// How many notifications no wait has used up, told where that is news.
-fn unused(s: State, before: u64) -> u64 {
+// How many notifications no wait has used up.
+fn unused(s: State) -> u64 {
     let k = s.counters;
-    let n = std::num::wrapping_sub_u64(k.notified, k.wait_from);
+    std::num::wrapping_sub_u64(k.notified, k.wait_from)
+}
+
+// The same, told where that is news.
+fn tell_unused(n: u64, before: u64) {
     if n != before {
         say::told(b"    notifications that no wait has used up: ", n, b"\n");
     }
-    n
 }
 
-// What a call gave.
-fn answered(a: Answer, store: &[u8], out: &[u8], told: u32, before: u64) -> Play {
+fn tell_answer(why: u8, sent: Sent, out: &[u8]) {
+    refused(why);
+    tells::sent(sent, out);
+}
+
+// What a call gave, of a state with so many notifications unused.
+fn answered(a: Answer, store: &[u8], out: &[u8], place: Place, before: u64) -> Play {
     let state = a.state;
     let sent = a.sent;
-    refused(a.refusal);
-    tells::sent(sent, out);
+    tell_answer(a.refusal, sent, out);
+    let told = results(state, store, place.told);
+    tell_unused(unused(state), before);
+    let now = place.now;
     Play {
         state,
-        told: results(state, store, told),
-        unused: unused(state, before),
-        sent: sent.bytes,
+        place: Place {
+            next: place.next,
+            now,
+            told,
+            sent: sent.bytes,
+        },
     }
-}
-
-fn turn(p: Play, store: &mut [u8], out: &mut [u8], h: Happening) -> Play {
-    let mut to = [0u8; places::MAX_FRAME];
-    let s = p.state;
-    let what = h.what;
-    let at = h.at;
-    let n = story::bytes(what, first(out, p.sent), &mut to);
-    let data = first(&to, n);
-    story::tell(at, what, data);
-    let a = act(s, store, out, at, what, data);
-    answered(a, store, out, p.told, p.unused)
 }
 
 // The head's answer to what was sent, or else the next of the story.
-fn next(sent: usize, i: usize, now: Micros) -> Happening {
-    if sent == 0 {
-        return story::of_itself(i);
+fn happening(p: Place) -> Happening {
+    if p.sent == 0 {
+        return story::of_itself(p.next);
     }
+    let now = p.now;
     Happening {
         at: time::later(now, ANSWERS_AFTER),
-        what: What::Answers,
+        what: What::Frame {
+            why: story::ANSWERS,
+        },
     }
 }
 
-fn count(sent: usize, i: usize) -> usize {
-    if sent == 0 {
-        return std::num::wrapping_add_usize(i, 1);
+fn further(p: Place, now: Micros) -> Place {
+    let mut next = p.next;
+    if p.sent == 0 {
+        next = std::num::wrapping_add_usize(next, 1);
     }
-    i
+    Place {
+        next,
+        now,
+        told: p.told,
+        sent: p.sent,
+    }
 }
 
-fn is_end(what: What) -> bool {
-    match what {
-        What::Script => false,
-        What::Again => false,
-        What::Stranger => false,
-        What::Head => false,
-        What::Response => false,
-        What::Timer => false,
-        What::Connected => false,
-        What::Taken => false,
-        What::Free => false,
-        What::Answers => false,
-        What::Disconnected => false,
-        What::End => true,
+fn turn(p: Play, store: &mut [u8], out: &mut [u8]) -> Play {
+    let mut to = [0u8; places::MAX_FRAME];
+    let s = p.state;
+    let place = p.place;
+    let h = happening(place);
+    let what = h.what;
+    let at = h.at;
+    let n = story::bytes(what, first(out, place.sent), &mut to);
+    let data = first(&to, n);
+    story::tell(at, what, data);
+    let a = act(s, store, out, at, what, data);
+    answered(a, store, out, further(place, at), unused(s))
+}
+
+fn is_over(p: Place) -> bool {
+    (p.sent == 0) & (story::HAPPENINGS <= p.next)
+}
+
+fn begun() -> Play {
+    Play {
+        state: state::fresh::fresh(),
+        place: Place {
+            next: 0,
+            now: Micros(0),
+            told: 0,
+            sent: 0,
+        },
     }
 }
 
 // The whole story.
 pub fn run(store: &mut [u8], out: &mut [u8]) {
-    let mut p = Play {
-        state: state::fresh::fresh(),
-        told: 0,
-        unused: 0,
-        sent: 0,
-    };
-    let mut i = 0;
-    let mut now = Micros(0);
+    let mut p = begun();
     let mut left = MOST_TURNS;
     while 0 < left {
-        let h = next(p.sent, i, now);
-        let what = h.what;
-        if is_end(what) {
+        let place = p.place;
+        if is_over(place) {
             return;
         }
-        i = count(p.sent, i);
-        now = h.at;
-        p = turn(p, store, out, h);
+        p = turn(p, store, out);
         left -= 1;
     }
 }

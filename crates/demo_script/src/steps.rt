@@ -49,7 +49,7 @@ fn wait(ms: u32) -> Placed {
 }
 
 // Scan, connect, agree on an MTU, discover, subscribe, wait twice, read, stay for a while, disconnect.
-pub fn whole() -> Batch {
+fn whole() -> Batch {
     let mut steps = [placed(Step::Disconnect); 64];
     steps[0] = placed(Step::Scan { ms: Millis(1_000) });
     steps[1] = connect();
@@ -70,12 +70,20 @@ pub fn whole() -> Batch {
 }
 
 // Connect, wait twice, disconnect.
-pub fn again() -> Batch {
+fn again() -> Batch {
     let mut steps = [placed(Step::Disconnect); 64];
     steps[0] = connect();
     steps[1] = wait(1_000);
     steps[2] = wait(1_000);
     Batch { steps, count: 4 }
+}
+
+// The first script, or the other.
+pub fn of(first: bool) -> Batch {
+    if first {
+        return whole();
+    }
+    again()
 }
 
 fn number(from: u64, i: usize) -> u64 {

@@ -1,25 +1,29 @@
 // What happens, and when; what is heard at it.
 use crate::steps;
 use time::Micros;
-use waiting::Batch;
 
 // The first script has so many steps.
 const FIRST_STEPS: u64 = 11;
 
 pub enum What {
-    Script,
-    Again,
-    Stranger,
-    Head,
+    // The first script is handed in, or the other.
+    Script { first: bool },
+    // The head advertises, or a stranger.
+    Advert { head: bool },
     Response,
     Timer,
     Connected,
-    Taken,
-    Free,
-    Answers,
+    // A frame of the head.
+    Frame { why: u8 },
     Disconnected,
-    End,
 }
+
+// Why the head sends a frame: it answers; a car comes; the car leaves.
+pub const ANSWERS: u8 = 0;
+
+const TAKEN: u8 = 1;
+
+const FREE: u8 = 2;
 
 pub struct Happening {
     pub at: Micros,
@@ -33,28 +37,30 @@ fn at(us: u64, what: What) -> Happening {
     }
 }
 
+// So many things happen of themselves.
+pub const HAPPENINGS: usize = 18;
+
 // What happens of itself; the head's answers come between.
 pub fn of_itself(i: usize) -> Happening {
     match i {
-        0 => at(0, What::Script),
-        1 => at(100_000, What::Stranger),
-        2 => at(200_000, What::Head),
+        0 => at(0, What::Script { first: true }),
+        1 => at(100_000, What::Advert { head: false }),
+        2 => at(200_000, What::Advert { head: true }),
         3 => at(200_500, What::Response),
         4 => at(1_000_000, What::Timer),
-        5 => at(1_100_000, What::Stranger),
-        6 => at(1_200_000, What::Head),
+        5 => at(1_100_000, What::Advert { head: false }),
+        6 => at(1_200_000, What::Advert { head: true }),
         7 => at(1_201_000, What::Connected),
-        8 => at(2_000_000, What::Taken),
+        8 => at(2_000_000, What::Frame { why: TAKEN }),
         9 => at(2_500_000, What::Timer),
-        10 => at(2_700_000, What::Free),
+        10 => at(2_700_000, What::Frame { why: FREE }),
         11 => at(3_010_000, What::Timer),
         12 => at(3_020_000, What::Disconnected),
-        13 => at(21_600_000_000, What::Again),
-        14 => at(21_600_100_000, What::Head),
+        13 => at(21_600_000_000, What::Script { first: false }),
+        14 => at(21_600_100_000, What::Advert { head: true }),
         15 => at(21_600_101_000, What::Connected),
         16 => at(21_601_101_000, What::Timer),
-        17 => at(21_601_111_000, What::Disconnected),
-        _ => at(0, What::End),
+        _ => at(21_601_111_000, What::Disconnected),
     }
 }
 
@@ -64,40 +70,68 @@ fn put(to: &mut [u8], s: &[u8]) -> usize {
     n
 }
 
-// The bytes that are heard at it, written to `to`: advertising data, or a frame of the head, which has heard what was sent.
-pub fn bytes(what: What, sent: &[u8], to: &mut [u8]) -> usize {
-    match what {
-        What::Script => 0,
-        What::Again => 0,
-        What::Stranger => put(to, b"\x03\x03\x0A\x18"),
-        What::Head => put(
+// Advertising data.
+fn advert(head: bool, to: &mut [u8]) -> usize {
+    if head {
+        return put(
             to,
             b"\x02\x01\x06\x11\x07\x9E\xCA\xDC\x24\x0E\xE5\xA9\xE0\x93\xF3\xA3\xB5\x01\x00\x40\x6E",
-        ),
+        );
+    }
+    put(to, b"\x03\x03\x0A\x18")
+}
+
+// A frame of the head, which has heard what was sent.
+fn frame(why: u8, sent: &[u8], to: &mut [u8]) -> usize {
+    if why == ANSWERS {
+        return head::answer(sent, to);
+    }
+    head::notify(to, why == TAKEN)
+}
+
+// The bytes that are heard at it, written to `to`.
+pub fn bytes(what: What, sent: &[u8], to: &mut [u8]) -> usize {
+    match what {
+        What::Script { first: _ } => 0,
+        What::Advert { head } => advert(head, to),
         What::Response => put(to, b"\x08\x09Bay 042"),
         What::Timer => 0,
         What::Connected => 0,
-        What::Taken => head::notify(to, true),
-        What::Free => head::notify(to, false),
-        What::Answers => head::answer(sent, to),
+        What::Frame { why } => frame(why, sent, to),
         What::Disconnected => 0,
-        What::End => 0,
     }
 }
 
-fn data(words: &[u8], s: &[u8]) {
+fn tell_script(first: bool) {
+    if first {
+        say::line(b": the collector hands in a script");
+        steps::tell(steps::of(true), 0);
+    } else {
+        say::line(b": six hours later it hands in another");
+        steps::tell(steps::of(false), FIRST_STEPS);
+    }
+}
+
+fn tell_data(words: &[u8], s: &[u8]) {
     say::text(words);
     say::bytes(s);
     say::line(b"");
 }
 
-fn batch(words: &[u8], b: Batch, from: u64) {
-    say::line(words);
-    steps::tell(b, from);
+fn tell_advert(head: bool, s: &[u8]) {
+    if head {
+        tell_data(b": the head advertises", s);
+    } else {
+        tell_data(b": a stranger advertises", s);
+    }
 }
 
-fn frame(words: &[u8], s: &[u8]) {
-    say::line(words);
+fn tell_frame(why: u8, s: &[u8]) {
+    match why {
+        ANSWERS => say::line(b": the head answers"),
+        TAKEN => say::line(b": a car comes, the head notifies"),
+        _ => say::line(b": the car leaves, the head notifies"),
+    }
     tells::heard(s);
 }
 
@@ -106,21 +140,12 @@ pub fn tell(at: Micros, what: What, s: &[u8]) {
     say::text(b"at ");
     tells::moment(at);
     match what {
-        What::Script => batch(b": the collector hands in a script", steps::whole(), 0),
-        What::Again => batch(
-            b": six hours later it hands in another",
-            steps::again(),
-            FIRST_STEPS,
-        ),
-        What::Stranger => data(b": a stranger advertises", s),
-        What::Head => data(b": the head advertises", s),
-        What::Response => data(b": the head responds to the scan", s),
+        What::Script { first } => tell_script(first),
+        What::Advert { head } => tell_advert(head, s),
+        What::Response => tell_data(b": the head responds to the scan", s),
         What::Timer => say::line(b": the timer"),
         What::Connected => say::line(b": a link to the head comes up"),
-        What::Taken => frame(b": a car comes, the head notifies", s),
-        What::Free => frame(b": the car leaves, the head notifies", s),
-        What::Answers => frame(b": the head answers", s),
+        What::Frame { why } => tell_frame(why, s),
         What::Disconnected => say::line(b": the link is gone"),
-        What::End => say::line(b": the end"),
     }
 }

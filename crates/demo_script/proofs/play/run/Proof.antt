@@ -1,39 +1,34 @@
 -- Safe, and ends: the turns that are left fall by one, and both lent slices keep their lengths.
 use lib.ListN.{length}
-use mathlib.Core.Path.{_≡_, _∙_}
+use mathlib.Core.Path.{_≡_}
+use native.Mathlib.Omega.{arith}
 use borrow.Author.Needs.{needs}
 use Rattle.demo_script.proofs.play.run.Statement.{statement}
 use Rattle.demo_script.proofs.play.run.Tie as tie
 
 abbrev Inv-loop : tie.InvT-loop
-Inv-loop store₀ out₀ p₀ i₀ now₀ left₀ store out p i now left = (length store ≡ length store₀) × (length out ≡ length out₀)
+Inv-loop store₀ out₀ p₀ left₀ store out p left = (length store ≡ length store₀) × (length out ≡ length out₀)
 
 abbrev μ-loop : tie.MeasureT-loop
-μ-loop store₀ out₀ p₀ i₀ now₀ left₀ store out p i now left = left
+μ-loop store₀ out₀ p₀ left₀ store out p left = left
 
-fresh-requires : tie.Need-fresh-requires Inv-loop μ-loop
-fresh-requires c κs = search needs
+begun-requires : tie.Need-begun-requires Inv-loop μ-loop
+begun-requires c κs = search needs
 
 loop-holds : tie.Need-loop-holds Inv-loop μ-loop
 loop-holds c = (search needs, search needs)
 
-next-requires : tie.Need-next-requires Inv-loop μ-loop
-next-requires c κs = search needs
-
-is-end-requires : tie.Need-is-end-requires Inv-loop μ-loop
-is-end-requires c κs = search needs
+is-over-requires : tie.Need-is-over-requires Inv-loop μ-loop
+is-over-requires c κs = search needs
 
 same-length : tie.Need-same-length Inv-loop μ-loop
-same-length c = c .before .before .before .before .loop .inv .0
+same-length c = omega arith
 
 same-length-2 : tie.Need-same-length-2 Inv-loop μ-loop
-same-length-2 c = c .before .before .before .before .loop .inv .1
+same-length-2 c = omega arith
 
 returns : tie.Need-returns Inv-loop μ-loop
 returns c = search needs
-
-count-requires : tie.Need-count-requires Inv-loop μ-loop
-count-requires c κs = search needs
 
 turn-requires : tie.Need-turn-requires Inv-loop μ-loop
 turn-requires c κs = search needs
@@ -45,13 +40,13 @@ loop-less : tie.Need-loop-less Inv-loop μ-loop
 loop-less c = search needs
 
 loop-again : tie.Need-loop-again Inv-loop μ-loop
-loop-again c = ((c .before .before .before .before .turn .kept .1 .0) ∙ (c .before .before .before .before .before .before .before .before .before .before .before .before .before .loop .inv .0), (c .before .before .before .before .turn .kept .1 .1 .0) ∙ (c .before .before .before .before .before .before .before .before .before .before .before .before .before .loop .inv .1))
+loop-again c = (omega (arith, c .before .before .before .before .turn .kept .1 .0), omega (arith, c .before .before .before .before .turn .kept .1 .1 .0))
 
 same-length-3 : tie.Need-same-length-3 Inv-loop μ-loop
-same-length-3 c = c .before .loop .inv .0
+same-length-3 c = omega arith
 
 same-length-4 : tie.Need-same-length-4 Inv-loop μ-loop
-same-length-4 c = c .before .loop .inv .1
+same-length-4 c = omega arith
 
 returns-2 : tie.Need-returns-2 Inv-loop μ-loop
 returns-2 c = search needs
@@ -62,14 +57,12 @@ run-spec =
     (tie.spec
     Inv-loop
     μ-loop
-    fresh-requires
+    begun-requires
     loop-holds
-    next-requires
-    is-end-requires
+    is-over-requires
     same-length
     same-length-2
     returns
-    count-requires
     turn-requires
     sub-left
     loop-less
