@@ -81,16 +81,22 @@ pub fn sent(s: Sent, out: &[u8]) {
     request(asked);
 }
 
+fn failed(s: StepStatus) {
+    match s {
+        StepStatus::AttError(code) => say::told(b"ATT error ", code as u64, b""),
+        StepStatus::TooLong => say::text(b"too long"),
+        StepStatus::Disconnected => say::text(b"disconnected"),
+        _ => say::text(b"table full"),
+    }
+}
+
 pub fn status(s: StepStatus) {
     match s {
         StepStatus::Ok => say::text(b"ok"),
         StepStatus::Timeout => say::text(b"timeout"),
         StepStatus::NotConnected => say::text(b"not connected"),
         StepStatus::NotFound => say::text(b"not found"),
-        StepStatus::AttError(code) => say::told(b"ATT error ", code as u64, b""),
-        StepStatus::TooLong => say::text(b"too long"),
-        StepStatus::Disconnected => say::text(b"disconnected"),
-        StepStatus::TableFull => say::text(b"table full"),
+        _ => failed(s),
     }
 }
 
@@ -163,10 +169,19 @@ fn millis(before: &[u8], ms: Millis) {
     say::told(before, ms.0 as u64, b" ms");
 }
 
-// What a step is to do.
-pub fn step(s: Step) {
+// A step that has nothing to do with a link.
+fn alone(s: Step) {
     match s {
         Step::Scan { ms } => millis(b"Scan for ", ms),
+        Step::Wait { ms } => millis(b"Wait for ", ms),
+        Step::Capture { enabled: _ } => say::text(b"Capture"),
+        _ => say::text(b"CaptureSecrets"),
+    }
+}
+
+// A step about the link, or else one that has nothing to do with it.
+fn linking(s: Step) {
+    match s {
         Step::Connect {
             target: _,
             interval: _,
@@ -176,6 +191,19 @@ pub fn step(s: Step) {
         } => millis(b"Connect within ", within_ms),
         Step::ExchangeMtu { mtu } => say::told(b"ExchangeMtu ", mtu as u64, b""),
         Step::DiscoverServices => say::text(b"DiscoverServices"),
+        Step::Disconnect => say::text(b"Disconnect"),
+        _ => alone(s),
+    }
+}
+
+fn wait(characteristic: Uuid, within: Millis) {
+    named(b"WaitNotification of ", characteristic);
+    millis(b" within ", within)
+}
+
+// What a step is to do.
+pub fn step(s: Step) {
+    match s {
         Step::DiscoverCharacteristics { service } => named(b"DiscoverCharacteristics of ", service),
         Step::Subscribe {
             characteristic,
@@ -189,14 +217,8 @@ pub fn step(s: Step) {
         Step::WaitNotification {
             characteristic,
             within_ms,
-        } => {
-            named(b"WaitNotification of ", characteristic);
-            millis(b" within ", within_ms)
-        }
-        Step::Wait { ms } => millis(b"Wait for ", ms),
-        Step::Disconnect => say::text(b"Disconnect"),
-        Step::Capture { enabled: _ } => say::text(b"Capture"),
-        Step::CaptureSecrets { secrets: _ } => say::text(b"CaptureSecrets"),
+        } => wait(characteristic, within_ms),
+        _ => linking(s),
     }
 }
 

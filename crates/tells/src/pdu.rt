@@ -30,26 +30,25 @@ fn range(words: &[u8], s: &[u8]) {
     number(b" to ", s, END_AT);
 }
 
-fn error(s: &[u8]) {
-    say::text(b"an error: ");
-    match byte(s, CODE_AT) {
+fn code(x: u8) {
+    match x {
         err::INVALID_HANDLE => say::text(b"no such handle"),
         err::REQUEST_NOT_SUPPORTED => say::text(b"no such request"),
         err::ATTRIBUTE_NOT_FOUND => say::text(b"nothing more there"),
         _ => say::text(b"another"),
     }
+}
+
+fn error(s: &[u8]) {
+    say::text(b"an error: ");
+    code(byte(s, CODE_AT));
     number(b", handle ", s, BLAMED_AT);
 }
 
-// An answer, a notification or an indication.
-fn answer(s: &[u8], opcode: u8) {
+// The answer to a read or a write, a notification or an indication.
+fn value(s: &[u8], opcode: u8) {
     match opcode {
-        op::ERROR_RSP => error(s),
-        op::EXCHANGE_MTU_RSP => number(b"an MTU response, ", s, BODY_AT),
-        op::FIND_INFORMATION_RSP => say::text(b"descriptors"),
-        op::READ_BY_TYPE_RSP => say::text(b"characteristics"),
         op::READ_RSP => say::text(b"a value read"),
-        op::READ_BY_GROUP_TYPE_RSP => say::text(b"services"),
         op::WRITE_RSP => say::text(b"a write response"),
         op::HANDLE_VALUE_NTF => number(b"a notification on handle ", s, BODY_AT),
         op::HANDLE_VALUE_IND => number(b"an indication on handle ", s, BODY_AT),
@@ -57,18 +56,37 @@ fn answer(s: &[u8], opcode: u8) {
     }
 }
 
-// A request, a command or a confirmation, or else an answer.
+// An error, or an answer that tells of the head.
+fn answer(s: &[u8], opcode: u8) {
+    match opcode {
+        op::ERROR_RSP => error(s),
+        op::EXCHANGE_MTU_RSP => number(b"an MTU response, ", s, BODY_AT),
+        op::FIND_INFORMATION_RSP => say::text(b"descriptors"),
+        op::READ_BY_TYPE_RSP => say::text(b"characteristics"),
+        op::READ_BY_GROUP_TYPE_RSP => say::text(b"services"),
+        _ => value(s, opcode),
+    }
+}
+
+// A read, a write or a confirmation, or else an answer.
+fn access(s: &[u8], opcode: u8) {
+    match opcode {
+        op::READ_REQ => number(b"a read request for handle ", s, BODY_AT),
+        op::WRITE_REQ => number(b"a write request for handle ", s, BODY_AT),
+        op::WRITE_CMD => number(b"a write command for handle ", s, BODY_AT),
+        op::HANDLE_VALUE_CFM => say::text(b"a confirmation"),
+        _ => answer(s, opcode),
+    }
+}
+
+// A request that asks about the head, or else another PDU.
 fn request(s: &[u8], opcode: u8) {
     match opcode {
         op::EXCHANGE_MTU_REQ => number(b"an MTU request, ", s, BODY_AT),
         op::FIND_INFORMATION_REQ => range(b"a request for descriptors", s),
         op::READ_BY_TYPE_REQ => range(b"a request for characteristics", s),
         op::READ_BY_GROUP_TYPE_REQ => range(b"a request for services", s),
-        op::READ_REQ => number(b"a read request for handle ", s, BODY_AT),
-        op::WRITE_REQ => number(b"a write request for handle ", s, BODY_AT),
-        op::WRITE_CMD => number(b"a write command for handle ", s, BODY_AT),
-        op::HANDLE_VALUE_CFM => say::text(b"a confirmation"),
-        _ => answer(s, opcode),
+        _ => access(s, opcode),
     }
 }
 
