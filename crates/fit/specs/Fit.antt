@@ -1,7 +1,7 @@
 -- When a state is fit (01, 'Refusal numbers', "Fit means"), clause by clause. Live entries alone count; with no link present the
 -- link's fields are free, and with no step active the running step's. A place of the store follows from a position (01, 'Sizes'; crate places):
 -- it is always inside its part and overlaps no other, so that of 01's second clause nothing is left to test.
-use Prim.Native.Nat.{ℕ, _+_}
+use Prim.Native.Nat.{ℕ}
 use mathlib.Core.Bool.{Bool, true, false, not, _&&_, _||_}
 use mathlib.Core.List.{List}
 use lib.ListN.{take}
@@ -15,7 +15,6 @@ use Rattle.characteristics.specs.Characteristic.{known, rises}
 use Rattle.att_pdu.specs.Numbers.{opExchangeMtuReq, opFindInformationReq, opReadByTypeReq, opReadReq, opReadByGroupTypeReq, opWriteReq}
 use Rattle.state.specs.Central.{Central}
 use Rattle.state.specs.declared.Counts.{Counts}
-use Rattle.state.specs.declared.Counters.{Counters}
 use Rattle.state.specs.declared.Bearer.{Bearer}
 use Rattle.state.specs.declared.Running.{Running}
 use Rattle.state.specs.declared.Queue.{Queue}
@@ -23,6 +22,7 @@ use Rattle.state.specs.declared.Queued.{Queued}
 use Rattle.state.specs.declared.Results.{Results}
 use Rattle.state.specs.declared.StepResult.{StepResult}
 use Rattle.state.specs.declared.Reports.{Reports}
+pub use Rattle.counters.specs.Counters.{mostNotified, notifiedFits, waitFits, mostRefused, refusedFits, lastIndex, indexFits}
 use Rattle.fit.specs.Steps.{implies, leastMtu, mostMtu, stepFits, attStep}
 
 -- ---- counts within the sizes
@@ -117,34 +117,8 @@ pendingFits b r = implies (awaits b) (isRequest (b .link .pending) && r .active 
 abbrev pub idleFits : Running → ℕ → Bool
 idleFits r waiting = r .active || eqb waiting 0
 
--- ---- kept notifications <= notified <= 2^62
-
-abbrev pub mostNotified : ℕ
-mostNotified = 4611686018427387904
-
-abbrev pub notifiedFits : Counters → ℕ → Bool
-notifiedFits k kept = leb kept (k .notified) && leb (k .notified) mostNotified
-
--- ---- wait_from <= notified
-
-abbrev pub waitFits : Counters → Bool
-waitFits k = leb (k .«wait_from») (k .notified)
-
--- ---- refused_steps <= 2^62 + 64
-
-abbrev pub mostRefused : ℕ
-mostRefused = 4611686018427387968
-
-abbrev pub refusedFits : Counters → Bool
-refusedFits k = leb (k .«refused_steps») mostRefused
-
--- ---- next index + waiting <= 4,294,967,295
-
-abbrev pub lastIndex : ℕ
-lastIndex = 4294967295
-
-abbrev pub indexFits : Counters → ℕ → Bool
-indexFits k waiting = leb (k .«next_index» + waiting) lastIndex
+-- ---- kept notifications <= notified <= 2^62; wait_from <= notified; refused_steps <= 2^62 + 64; next index + waiting <= 4,294,967,295:
+-- notifiedFits, waitFits, refusedFits and indexFits, of crate counters
 
 -- ---- a deadline at most 2^63
 

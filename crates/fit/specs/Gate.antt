@@ -1,4 +1,4 @@
--- Refusals 1 to 3, which calls share, in their order (01, 'Refusal numbers').
+-- Refusals 1 to 3, which calls share, in their order (01, 'Refusal numbers'; the order is firstRefusal's, of crate refusals).
 use Prim.Native.Nat.{ℕ}
 use mathlib.Core.Bool.{Bool, true, false, not, _&&_}
 use lib.Dec.{eqb, leb}
@@ -8,11 +8,8 @@ use Rattle.time.specs.declared.Micros.{Micros}
 use Rattle.time.specs.Clock.{tooLate}
 use Rattle.state.specs.Central.{Central}
 use Rattle.fit.specs.Fit.{fits}
-use Rattle.fit.specs.Refusals.{accepted, unfit, wrongSize, lateTime}
-
--- the first that applies: of the state, of what is lent, of the time
-unfoldable pub firstRefusal : Bool → Bool → Bool → ℕ
-firstRefusal fit sized timely = pick fit (pick sized (pick timely accepted lateTime) wrongSize) unfit
+use Rattle.fit.specs.Refusals.{accepted}
+unfoldable pub use Rattle.refusals.specs.Refusals.{firstRefusal}
 
 -- of a call that may send: a state, the bytes lent as store and as output, a time
 abbrev pub gate : Central → ℕ → ℕ → Micros → ℕ

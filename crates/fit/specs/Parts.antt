@@ -5,10 +5,8 @@ use Rattle.state.specs.declared.Counts.{Counts}
 use Rattle.state.specs.declared.Counters.{Counters}
 use Rattle.state.specs.declared.Bearer.{Bearer}
 use Rattle.state.specs.declared.Running.{Running}
-use Rattle.fit.specs.Fit.{countsFit, heldFits, mtuFits, runningFits, phaseFits, pendingFits, idleFits, notifiedFits, waitFits, refusedFits, indexFits, deadlineFits}
-
-unfoldable pub countersFit : Counters → Counts → Bool
-countersFit k n = notifiedFits k (n .notifications) && waitFits k && refusedFits k && indexFits k (n .waiting)
+use Rattle.fit.specs.Fit.{countsFit, heldFits, mtuFits, runningFits, phaseFits, pendingFits, idleFits, deadlineFits}
+unfoldable pub use Rattle.counters.specs.Counters.{countersFit}
 
 unfoldable pub stepFit : Running → ℕ → Bool
 stepFit r waiting = runningFits r && phaseFits r && idleFits r waiting && deadlineFits r

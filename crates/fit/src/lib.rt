@@ -1,15 +1,17 @@
 // Whether a state is one that calls take, and the refusals that calls share.
 ghost use mathlib.Core.Path.{_≡_};
-ghost use Prim.Native.Nat.{_+_, _≤_, max};
+ghost use Prim.Native.Nat.{_≤_, max};
 ghost use lib.ListN.{length, take};
-ghost use lib.Dec.{leb};
 ghost use Rattle.places.specs.Sizes.{mostSteps, mostResults, mostReports};
 ghost use Rattle.state.specs.Central.{central};
 ghost use Rattle.fit.specs.Steps.{carries, mtuNamed, stepFits, attStep};
-ghost use Rattle.fit.specs.Fit.{countsFit, resultsFit, lengthsFit, stepsFit, isRequest, lastIndex, fits};
-ghost use Rattle.fit.specs.Parts.{countersFit, stepFit, bearerFits, headFits};
+ghost use Rattle.fit.specs.Fit.{countsFit, resultsFit, lengthsFit, stepsFit, isRequest, fits};
+ghost use Rattle.fit.specs.Parts.{stepFit, bearerFits, headFits};
 ghost use Rattle.fit.specs.Gate.{firstRefusal, gate, gateQuiet, gateReader};
 use att_pdu::op;
+pub use counters::LAST_INDEX;
+pub use counters::MAX_NOTIFIED;
+pub use refusals::refusal;
 use state::Bearer;
 use state::Counters;
 use state::Counts;
@@ -19,8 +21,6 @@ use state::State;
 use state::Step;
 use state::StepResult;
 use time::Micros;
-
-pub mod refusal;
 
 // The ATT_MTU of a link: the least that LE allows, and the most that a held frame has room for.
 pub const MIN_MTU: u16 = 23;
@@ -34,14 +34,6 @@ pub const MAX_LENGTH: u8 = places::MAX_DATA as u8;
 pub const NO_RESPONSE: u8 = 32;
 
 const LAST_PHASE: u8 = 2;
-
-// 2^62.
-pub const MAX_NOTIFIED: u64 = 4_611_686_018_427_387_904;
-
-// 2^62 and a batch more.
-const MAX_REFUSED: u64 = 4_611_686_018_427_387_968;
-
-pub const LAST_INDEX: usize = 4_294_967_295;
 
 // 2^63.
 const LAST_DEADLINE: u64 = 9_223_372_036_854_775_808;
@@ -169,12 +161,6 @@ fn wide(x: u8) -> usize
     x as usize
 }
 
-fn long(x: usize) -> u64
-    ensures { λ r. ⌜ r ≡ x ⌝ }
-{
-    x as u64
-}
-
 // ---- tables
 
 pub fn steps_fit(waiting: [Queued; 64], count: usize) -> bool
@@ -245,28 +231,6 @@ fn counts_fit(n: Counts, reports: usize, keys: usize) -> bool
         & (keys <= places::MAX_KEYS)
 }
 
-// Whether each of the waiting steps can still have an index.
-fn index_fits(next: u32, waiting: usize) -> bool
-    ensures { λ r. ⌜ r ≡ leb (next + waiting) lastIndex ⌝ }
-{
-    if LAST_INDEX < waiting {
-        return false;
-    }
-    let first = next as usize;
-    let last = first + waiting;
-    last <= LAST_INDEX
-}
-
-fn counters_fit(k: Counters, n: Counts) -> bool
-    ensures { λ r. ⌜ r ≡ countersFit k n ⌝ }
-{
-    (long(n.notifications) <= k.notified)
-        & (k.notified <= MAX_NOTIFIED)
-        & (k.wait_from <= k.notified)
-        & (k.refused_steps <= MAX_REFUSED)
-        & index_fits(k.next_index, n.waiting)
-}
-
 fn running_fits(r: Running, waiting: usize) -> bool
     ensures { λ x. ⌜ x ≡ stepFit r waiting ⌝ }
 {
@@ -310,7 +274,7 @@ pub fn head_fit(n: Counts, k: Counters, b: Bearer, r: Running, reports: usize, k
     ensures { λ x. ⌜ x ≡ headFits n k b r reports keys ⌝ }
 {
     counts_fit(n, reports, keys)
-        & counters_fit(k, n)
+        & counters::counters_fit(k, n)
         & running_fits(r, n.waiting)
         & bearer_fits(b, r)
 }
@@ -372,16 +336,7 @@ pub fn is_fit(s: State) -> bool
 pub fn first_refusal(fit: bool, sized: bool, timely: bool) -> u8
     ensures { λ r. ⌜ r ≡ firstRefusal fit sized timely ⌝ }
 {
-    if !fit {
-        return refusal::UNFIT;
-    }
-    if !sized {
-        return refusal::WRONG_SIZE;
-    }
-    if !timely {
-        return refusal::LATE_TIME;
-    }
-    refusal::ACCEPTED
+    refusals::first_refusal(fit, sized, timely)
 }
 
 // Of a call that may send.
@@ -389,7 +344,7 @@ pub fn gate(s: State, store_len: usize, out_len: usize, at: Micros) -> u8
     ensures { λ r. ⌜ r ≡ gate (central s) «store_len» «out_len» at ⌝ }
 {
     let fit = is_fit(s);
-    let sized = (store_len == places::STORE_SIZE) & (places::OUTPUT_SIZE <= out_len);
+    let sized = refusals::sizes_fit(store_len, out_len);
     let late = time::too_late(at);
     first_refusal(fit, sized, !late)
 }

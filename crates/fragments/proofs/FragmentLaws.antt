@@ -1,16 +1,16 @@
 -- What each return of the held bytes and of the gate asks, and what a gate that refuses nothing has shown.
 use Prim.Native.Nat.{ℕ, _+_, _-_, _≤_, _<_}
 use mathlib.Core.Path.{_≡_, refl, sym, ap, _∙_}
-use mathlib.Core.Bool.{Bool, true, false, not, _||_, false≢true}
+use mathlib.Core.Bool.{Bool, true, false, _||_, false≢true}
 use mathlib.Core.List.{List}
 use native.Mathlib.Omega.{arith}
 use lib.ListN.{length}
 use lib.Dec.{eqb, leb}
-use borrow.Author.Tests.{eqb-true, eqb-false, leb-true, eq-eqb, ne-eqb, lt-leb, le-leb, not-true, not-false}
+use borrow.Author.Tests.{eqb-true, eqb-false, leb-true, eq-eqb, ne-eqb, lt-leb, le-leb}
 use Rattle.base.specs.Choice.{pick}
 use Rattle.base.specs.Bytes.{leAt}
 use Rattle.base.specs.Splice.{splice}
-use Rattle.base.proofs.TestLaws.{fits-less, fits-more}
+use Rattle.base.proofs.TestLaws.{fits-less}
 use Rattle.places.specs.Sizes.{heldAt, frameSize}
 use Rattle.time.specs.declared.Micros.{Micros}
 use Rattle.state.specs.Central.{Central, central, withBearer}
@@ -59,31 +59,19 @@ module _ (b : Bearer) (start : Bool) (n : ℕ) (d : Bool) (e : d ≡ dropped b s
   unfolding heldFits
   fits-dropped h = rw (← e, h)
 
-  pub fits-long : d ≡ false → frameSize < n → false ≡ heldFits b start n
+  pub fits-law : (from : ℕ) (r : Bool) → d ≡ false → from ≡ heldBefore b start → r ≡ leb (from + n) frameSize → r ≡ heldFits b start n
   unfolding heldFits
-  fits-long h k = rw (← e, h) (fits-more frameSize (heldBefore b start) n k)
-
-  pub fits-law : (from : ℕ) → d ≡ false → n ≤ frameSize → from ≡ heldBefore b start → leb from (frameSize - n) ≡ heldFits b start n
-  unfolding heldFits
-  fits-law from h k f = ap (λ (m : ℕ). leb m (frameSize - n)) f ∙ rw (← e, h) (fits-less frameSize (heldBefore b start) n k)
+  fits-law from r h f g = g ∙ ap (λ (m : ℕ). leb (m + n) frameSize) f ∙ rw (← e, h)
 
 module _ (c : Central) (store out : ℕ) (at : Micros) (start : Bool) (n g : ℕ) (e : g ≡ gate c store out at) where
   pub gate-shared : (g ≡ 0 → ⊥) → g ≡ gateFragment c store out at start n
   unfolding gateFragment
   gate-shared h = rw (← e, ne-eqb g 0 h)
 
-  module _ (h : g ≡ 0) (full : Bool) (k : full ≡ eqb (c .counters .notified) mostNotified) (x : Bool) (f : x ≡ heldFits (c .bearer) start n) where
-    pub gate-full : full ≡ true → counterFull ≡ gateFragment c store out at start n
-    unfolding gateFragment
-    gate-full l = rw (← e, eq-eqb g 0 h, ← k, l)
-
-    pub gate-long : full ≡ false → not x ≡ true → longFrame ≡ gateFragment c store out at start n
-    unfolding gateFragment
-    gate-long l m = rw (← e, eq-eqb g 0 h, ← k, l, ← f, not-true x m)
-
-    pub gate-open : full ≡ false → not x ≡ false → accepted ≡ gateFragment c store out at start n
-    unfolding gateFragment
-    gate-open l m = rw (← e, eq-eqb g 0 h, ← k, l, ← f, not-false x m)
+  pub gate-own : g ≡ 0 → (full : Bool) → full ≡ eqb (c .counters .notified) mostNotified → (x : Bool) → x ≡ heldFits (c .bearer) start n
+      → (r : ℕ) → r ≡ pick full counterFull (pick x accepted longFrame) → r ≡ gateFragment c store out at start n
+  unfolding gateFragment
+  gate-own h full k x f r d = d ∙ rw (← e, eq-eqb g 0 h, ← k, ← f)
 
 module _ (c r : Central) (why : ℕ) where
   pub refusing-long : why ≡ longFrame → r ≡ withHeld c 0 → r ≡ refusing c why

@@ -99,10 +99,7 @@ fn held_fits(b: Bearer, start: bool, n: usize) -> bool
     if is_dropped(b, start) {
         return true;
     }
-    if places::MAX_FRAME < n {
-        return false;
-    }
-    held_before(b, start) <= places::MAX_FRAME - n
+    refusals::frame_fits(held_before(b, start), n)
 }
 
 // In their order: 1, 2, 3, then 5, then 7.
@@ -122,15 +119,9 @@ pub fn gate_fragment(
     }
     let k = s.counters;
     let b = s.bearer;
-    let full = k.notified == fit::MAX_NOTIFIED;
+    let full = counters::is_full(k);
     let fits = held_fits(b, start, n);
-    if full {
-        return refusal::COUNTER_FULL;
-    }
-    if !fits {
-        return refusal::LONG_FRAME;
-    }
-    refusal::ACCEPTED
+    refusals::fragment_refusal(full, fits)
 }
 
 // The state that a refusal leaves: 7 alone empties what is held.

@@ -5,7 +5,7 @@ use Rattle.fit.proofs.head_fit.Tie as tie
 use Rattle.fit.proofs.head_fit.Reads as reads
 use Rattle.fit.proofs.head_fit.Lts as lts
 use Rattle.fit.proofs.bearer_fits.Reads as bearer-fits-reads
-use Rattle.fit.proofs.counters_fit.Reads as counters-fit-reads
+use Rattle.counters.proofs.counters_fit.Reads as counters-fit-reads
 use Rattle.fit.proofs.counts_fit.Reads as counts-fit-reads
 use Rattle.fit.proofs.running_fits.Reads as running-fits-reads
 

@@ -1,11 +1,11 @@
-use Rattle.fit.specs.Parts.{countersFit}
+use Rattle.counters.specs.Counters.{countersFit}
 use borrow.Author.Needs.{needs}
-use Rattle.fit.proofs.counters_fit.Statement.{statement}
-use Rattle.fit.proofs.counters_fit.Tie as tie
-use Rattle.fit.proofs.counters_fit.Reads as reads
-use Rattle.fit.proofs.counters_fit.Lts as lts
-use Rattle.fit.proofs.index_fits.Reads as index-fits-reads
-use Rattle.fit.proofs.long.Reads as long-reads
+use Rattle.counters.proofs.counters_fit.Statement.{statement}
+use Rattle.counters.proofs.counters_fit.Tie as tie
+use Rattle.counters.proofs.counters_fit.Reads as reads
+use Rattle.counters.proofs.counters_fit.Lts as lts
+use Rattle.counters.proofs.index_fits.Reads as index-fits-reads
+use Rattle.counters.proofs.long.Reads as long-reads
 
 -- src/lib.rt:259:6
 long-requires : tie.Need-long-requires

@@ -1,9 +1,9 @@
-use Rattle.fit.specs.Gate.{firstRefusal}
+use Rattle.refusals.specs.Refusals.{firstRefusal}
 use borrow.Author.Tests.{not-true, not-false}
-use Rattle.fit.proofs.first_refusal.Statement.{statement}
-use Rattle.fit.proofs.first_refusal.Tie as tie
-use Rattle.fit.proofs.first_refusal.Reads as reads
-use Rattle.fit.proofs.first_refusal.Lts as lts
+use Rattle.refusals.proofs.first_refusal.Statement.{statement}
+use Rattle.refusals.proofs.first_refusal.Tie as tie
+use Rattle.refusals.proofs.first_refusal.Reads as reads
+use Rattle.refusals.proofs.first_refusal.Lts as lts
 
 -- src/lib.rt:377:9
 returns : tie.Need-returns

@@ -1,13 +1,13 @@
-use Rattle.fit.specs.Fit.{lastIndex}
+use Rattle.counters.specs.Counters.{lastIndex}
 use borrow.Author.Tests.{lt-leb}
 use native.Mathlib.Omega.{arith}
 use mathlib.Core.Path.{sym}
 use Prim.Native.Nat.{_+_}
 use borrow.Author.Needs.{needs}
-use Rattle.fit.proofs.index_fits.Statement.{statement}
-use Rattle.fit.proofs.index_fits.Tie as tie
-use Rattle.fit.proofs.index_fits.Reads as reads
-use Rattle.fit.proofs.index_fits.Lts as lts
+use Rattle.counters.proofs.index_fits.Statement.{statement}
+use Rattle.counters.proofs.index_fits.Tie as tie
+use Rattle.counters.proofs.index_fits.Reads as reads
+use Rattle.counters.proofs.index_fits.Lts as lts
 
 -- src/lib.rt:249:9
 returns : tie.Need-returns

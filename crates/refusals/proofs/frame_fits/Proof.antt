@@ -1,0 +1,16 @@
+use Rattle.base.proofs.TestLaws.{fits-less, fits-more}
+use Rattle.places.specs.Sizes.{frameSize}
+use borrow.Author.Needs.{needs}
+use Rattle.refusals.proofs.frame_fits.Statement.{statement}
+use Rattle.refusals.proofs.frame_fits.Tie as tie
+use Rattle.refusals.proofs.frame_fits.Reads as reads
+use Rattle.refusals.proofs.frame_fits.Lts as lts
+
+returns : tie.Need-returns
+returns c = fits-more frameSize (c .before .args .there) (c .before .args .n) (c .if1 .taken)
+
+returns-2 : tie.Need-returns-2
+returns-2 c = fits-less frameSize (c .before .args .there) (c .before .args .n) (c .if1 .left)
+
+pub frame-fits-spec : {M : Type 1} → statement M
+frame-fits-spec = tie.close (tie.spec returns returns-2)
