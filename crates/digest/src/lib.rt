@@ -6,7 +6,6 @@ mod tables;
 use state::Bearer;
 use state::Counters;
 use state::Counts;
-use state::Heard;
 use state::Running;
 use state::State;
 
@@ -67,19 +66,6 @@ fn of_running(h: u64, r: Running) -> u64 {
     more_of_flag(more_of_flag(e, r.active), r.dated)
 }
 
-fn of_heard(h: u64, x: Heard) -> u64 {
-    let at = x.at;
-    let channel = x.channel;
-    let pdu = x.pdu;
-    let len = x.len;
-    let response = x.response;
-    let a = tables::of_words(h, at);
-    let b = tables::of_bytes(a, channel);
-    let c = tables::of_bytes(b, pdu);
-    let d = tables::of_bytes(c, len);
-    tables::of_bytes(d, response)
-}
-
 fn of_head(h: u64, s: State) -> u64 {
     let a = of_counters(of_counts(h, s.counts), s.counters);
     let b = of_running(of_bearer(a, s.bearer), s.running);
@@ -89,21 +75,19 @@ fn of_head(h: u64, s: State) -> u64 {
 fn of_tables(h: u64, s: State) -> u64 {
     let waiting = s.waiting;
     let results = s.results;
-    let services = s.services;
     let characteristics = s.characteristics;
+    let services = s.services;
     let notifications = s.notifications;
-    let a = tables::of_waiting(h, waiting);
-    let b = tables::of_results(a, results);
-    let c = tables::of_services(b, services);
-    let d = tables::of_characteristics(c, characteristics);
-    tables::of_notifications(d, notifications)
+    let a = tables::of_steps(h, waiting, results);
+    let b = tables::of_characteristics(a, characteristics);
+    tables::of_entries(b, services, notifications)
 }
 
 fn of_reports(h: u64, s: State) -> u64 {
     let who = s.who;
     let heard = s.heard;
     let keys = s.keys;
-    tables::of_keys(of_heard(tables::of_words(h, who), heard), keys)
+    tables::of_reports(h, who, heard, keys)
 }
 
 // Of every field, dead places too.

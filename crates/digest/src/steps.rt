@@ -1,4 +1,4 @@
-// The fields of a step, of a target and of a status, after a number for each case.
+// The fields of a step and of a target, after a number for each case, and a number for each status.
 use crate::more;
 use crate::more_of_flag;
 use state::Address;
@@ -24,62 +24,75 @@ fn of_target(h: u64, t: Target) -> u64 {
     }
 }
 
-fn of_millis(h: u64, ms: Millis) -> u64 {
-    more(h, ms.0 as u64)
+fn of_millis(h: u64, case: u64, ms: Millis) -> u64 {
+    more(more(h, case), ms.0 as u64)
 }
 
-fn of_params(h: u64, interval: u16, latency: u16, timeout: u16) -> u64 {
-    more(
-        more(more(h, interval as u64), latency as u64),
-        timeout as u64,
-    )
+fn of_named(h: u64, case: u64, u: Uuid, x: bool) -> u64 {
+    more_of_flag(of_uuid(more(h, case), u), x)
+}
+
+fn of_connect(h: u64, target: Target, interval: u16, latency: u16, timeout: u16) -> u64 {
+    let a = more(of_target(h, target), interval as u64);
+    more(more(a, latency as u64), timeout as u64)
+}
+
+// A step that names a characteristic or a service; DiscoverServices names none.
+fn of_naming(h: u64, step: Step) -> u64 {
+    match step {
+        Step::DiscoverCharacteristics { service } => of_named(h, 5, service, false),
+        Step::Subscribe {
+            characteristic,
+            indicate,
+        } => of_named(h, 6, characteristic, indicate),
+        Step::Write {
+            characteristic,
+            with_response,
+        } => of_named(h, 7, characteristic, with_response),
+        Step::Read { characteristic } => of_named(h, 8, characteristic, false),
+        Step::WaitNotification {
+            characteristic,
+            within_ms,
+        } => of_named(of_millis(h, 9, within_ms), 9, characteristic, false),
+        _ => more(h, 4),
+    }
 }
 
 pub fn of_step(h: u64, step: Step) -> u64 {
     match step {
-        Step::Scan { ms } => of_millis(more(h, 1), ms),
+        Step::Scan { ms } => of_millis(h, 1, ms),
         Step::Connect {
             target,
             interval,
             latency,
             timeout,
             within_ms,
-        } => {
-            let a = of_millis(of_target(more(h, 2), target), within_ms);
-            of_params(a, interval, latency, timeout)
-        }
+        } => of_connect(
+            of_millis(h, 2, within_ms),
+            target,
+            interval,
+            latency,
+            timeout,
+        ),
         Step::ExchangeMtu { mtu } => more(more(h, 3), mtu as u64),
-        Step::DiscoverServices => more(h, 4),
-        Step::DiscoverCharacteristics { service } => of_uuid(more(h, 5), service),
-        Step::Subscribe {
-            characteristic,
-            indicate,
-        } => more_of_flag(of_uuid(more(h, 6), characteristic), indicate),
-        Step::Write {
-            characteristic,
-            with_response,
-        } => more_of_flag(of_uuid(more(h, 7), characteristic), with_response),
-        Step::Read { characteristic } => of_uuid(more(h, 8), characteristic),
-        Step::WaitNotification {
-            characteristic,
-            within_ms,
-        } => of_millis(of_uuid(more(h, 9), characteristic), within_ms),
-        Step::Wait { ms } => of_millis(more(h, 10), ms),
+        Step::Wait { ms } => of_millis(h, 10, ms),
         Step::Disconnect => more(h, 11),
         Step::Capture { enabled } => more_of_flag(more(h, 12), enabled),
         Step::CaptureSecrets { secrets } => more_of_flag(more(h, 13), secrets),
+        _ => of_naming(h, step),
     }
 }
 
-pub fn of_status(h: u64, status: StepStatus) -> u64 {
+// The code of an AttError is above all others.
+pub fn number_of(status: StepStatus) -> u64 {
     match status {
-        StepStatus::Ok => more(h, 1),
-        StepStatus::Timeout => more(h, 2),
-        StepStatus::NotConnected => more(h, 3),
-        StepStatus::NotFound => more(h, 4),
-        StepStatus::AttError(code) => more(more(h, 5), code as u64),
-        StepStatus::TooLong => more(h, 6),
-        StepStatus::Disconnected => more(h, 7),
-        StepStatus::TableFull => more(h, 8),
+        StepStatus::Ok => 1,
+        StepStatus::Timeout => 2,
+        StepStatus::NotConnected => 3,
+        StepStatus::NotFound => 4,
+        StepStatus::AttError(code) => 256 + code as u64,
+        StepStatus::TooLong => 5,
+        StepStatus::Disconnected => 6,
+        StepStatus::TableFull => 7,
     }
 }

@@ -5,6 +5,7 @@ use crate::steps;
 use characteristics::Cccd;
 use characteristics::Characteristic;
 use services::Service;
+use state::Heard;
 use state::Queued;
 use state::StepResult;
 use waits::Notification;
@@ -18,7 +19,7 @@ fn of_result(h: u64, x: StepResult) -> u64 {
     let at = x.at;
     let status = x.status;
     let a = more(more(h, x.index as u64), at.0);
-    more(steps::of_status(a, status), x.len as u64)
+    more(more(a, steps::number_of(status)), x.len as u64)
 }
 
 fn of_service(h: u64, x: Service) -> u64 {
@@ -26,10 +27,11 @@ fn of_service(h: u64, x: Service) -> u64 {
     steps::of_uuid(more(more(h, x.start as u64), x.end as u64), uuid)
 }
 
-fn of_cccd(h: u64, c: Cccd) -> u64 {
+// A known handle is above none.
+fn number_of(c: Cccd) -> u64 {
     match c {
-        Cccd::Unknown => more(h, 1),
-        Cccd::At(handle) => more(more(h, 2), handle as u64),
+        Cccd::Unknown => 0,
+        Cccd::At(handle) => 65_536 + handle as u64,
     }
 }
 
@@ -37,7 +39,8 @@ fn of_characteristic(h: u64, x: Characteristic) -> u64 {
     let uuid = x.uuid;
     let cccd = x.cccd;
     let a = more(more(h, x.declaration as u64), x.properties as u64);
-    of_cccd(steps::of_uuid(more(a, x.value_handle as u64), uuid), cccd)
+    let b = more(more(a, x.value_handle as u64), number_of(cccd));
+    steps::of_uuid(b, uuid)
 }
 
 fn of_notification(h: u64, x: Notification) -> u64 {
@@ -46,34 +49,13 @@ fn of_notification(h: u64, x: Notification) -> u64 {
     more_of_flag(more(a, x.len as u64), x.indication)
 }
 
-pub fn of_waiting(h: u64, kept: [Queued; 64]) -> u64 {
+pub fn of_steps(h: u64, waiting: [Queued; 64], results: [StepResult; 64]) -> u64 {
     let mut r = h;
     let mut i = 0;
     while i < 64 {
-        let x = kept[i];
-        r = of_queued(r, x);
-        i += 1;
-    }
-    r
-}
-
-pub fn of_results(h: u64, kept: [StepResult; 64]) -> u64 {
-    let mut r = h;
-    let mut i = 0;
-    while i < 64 {
-        let x = kept[i];
-        r = of_result(r, x);
-        i += 1;
-    }
-    r
-}
-
-pub fn of_services(h: u64, kept: [Service; 32]) -> u64 {
-    let mut r = h;
-    let mut i = 0;
-    while i < 32 {
-        let x = kept[i];
-        r = of_service(r, x);
+        let q = waiting[i];
+        let x = results[i];
+        r = of_result(of_queued(r, q), x);
         i += 1;
     }
     r
@@ -90,22 +72,13 @@ pub fn of_characteristics(h: u64, kept: [Characteristic; 64]) -> u64 {
     r
 }
 
-pub fn of_notifications(h: u64, kept: [Notification; 32]) -> u64 {
+pub fn of_entries(h: u64, services: [Service; 32], notifications: [Notification; 32]) -> u64 {
     let mut r = h;
     let mut i = 0;
     while i < 32 {
-        let x = kept[i];
-        r = of_notification(r, x);
-        i += 1;
-    }
-    r
-}
-
-pub fn of_words(h: u64, kept: [u64; 64]) -> u64 {
-    let mut r = h;
-    let mut i = 0;
-    while i < 64 {
-        r = more(r, kept[i]);
+        let v = services[i];
+        let n = notifications[i];
+        r = of_notification(of_service(r, v), n);
         i += 1;
     }
     r
@@ -115,21 +88,24 @@ fn wide(x: u8) -> u64 {
     x as u64
 }
 
-pub fn of_bytes(h: u64, kept: [u8; 64]) -> u64 {
+// What was heard of the advertiser at place i, counted round.
+fn of_heard_at(h: u64, x: Heard, i: usize) -> u64 {
+    let at = i % 64;
+    let a = more(more(h, x.at[at]), wide(x.channel[at]));
+    let b = more(more(a, wide(x.pdu[at])), wide(x.len[at]));
+    more(b, wide(x.response[at]))
+}
+
+// The reports, and the keys, which are twice as many.
+pub fn of_reports(h: u64, who: [u64; 64], x: Heard, keys: [u64; 128]) -> u64 {
     let mut r = h;
     let mut i = 0;
     while i < 64 {
-        r = more(r, wide(kept[i]));
-        i += 1;
-    }
-    r
-}
-
-pub fn of_keys(h: u64, kept: [u64; 128]) -> u64 {
-    let mut r = h;
-    let mut i = 0;
-    while i < 128 {
-        r = more(r, kept[i]);
+        let w = who[i];
+        let k = keys[i];
+        let j = i + 64;
+        let l = keys[j];
+        r = more(more(more(of_heard_at(r, x, i), w), k), l);
         i += 1;
     }
     r
