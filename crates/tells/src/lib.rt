@@ -2,7 +2,6 @@
 mod pdu;
 
 use readers::Given;
-use state::Address;
 use state::LinkRequest;
 use state::Sent;
 use state::Step;
@@ -90,7 +89,7 @@ fn failed(s: StepStatus) {
     }
 }
 
-pub fn status(s: StepStatus) {
+fn status(s: StepStatus) {
     match s {
         StepStatus::Ok => say::text(b"ok"),
         StepStatus::Timeout => say::text(b"timeout"),
@@ -154,15 +153,6 @@ fn value(store: &[u8], place: usize, len: usize) {
         say::text(b", as text: ");
         say::text(v);
     }
-}
-
-// An address as its number.
-pub fn address(a: Address) {
-    if a.random {
-        say::text(b"random ");
-    }
-    say::hex(a.high as u64, 4);
-    say::hex(a.low as u64, 8);
 }
 
 fn millis(before: &[u8], ms: Millis) {
