@@ -1,5 +1,5 @@
-use Rattle.views.specs.ViewLaws.{body-told}
-use Rattle.views.specs.View.{view}
+use Rattle.sights.specs.ViewLaws.{body-told}
+use Rattle.sights.specs.View.{view}
 use Rattle.state.specs.Central.{central}
 use Rattle.uuid.specs.Value.{num}
 use lib.ListN.{length}

@@ -1,5 +1,5 @@
-use Rattle.views.specs.ViewLaws.{data-fits, part-told}
-use Rattle.views.specs.View.{dataIn}
+use Rattle.sights.specs.ViewLaws.{data-fits, part-told}
+use Rattle.sights.specs.View.{dataIn}
 use Rattle.state.specs.Central.{central}
 use borrow.Author.Needs.{length-unmapped}
 use lib.ListN.{length}
@@ -11,8 +11,8 @@ use Rattle.views.proofs.report_data.Statement.{statement}
 use Rattle.views.proofs.report_data.Tie as tie
 use Rattle.views.proofs.report_data.Reads as reads
 use Rattle.views.proofs.report_data.Lts as lts
-use Rattle.views.proofs.data_in.Reads as data-in-reads
-use Rattle.views.proofs.see.Reads as see-reads
+use Rattle.sights.proofs.data_in.Reads as data-in-reads
+use Rattle.sights.proofs.see.Reads as see-reads
 
 -- src/lib.rt:134:21
 see-requires : tie.Need-see-requires

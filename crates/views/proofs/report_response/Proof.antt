@@ -1,5 +1,5 @@
-use Rattle.views.specs.ViewLaws.{answer-fits, part-told}
-use Rattle.views.specs.View.{answerIn}
+use Rattle.sights.specs.ViewLaws.{answer-fits, part-told}
+use Rattle.sights.specs.View.{answerIn}
 use Rattle.state.specs.Central.{central}
 use borrow.Author.Needs.{length-unmapped}
 use lib.ListN.{length}
@@ -11,8 +11,8 @@ use Rattle.views.proofs.report_response.Statement.{statement}
 use Rattle.views.proofs.report_response.Tie as tie
 use Rattle.views.proofs.report_response.Reads as reads
 use Rattle.views.proofs.report_response.Lts as lts
-use Rattle.views.proofs.answer_in.Reads as answer-in-reads
-use Rattle.views.proofs.see.Reads as see-reads
+use Rattle.sights.proofs.answer_in.Reads as answer-in-reads
+use Rattle.sights.proofs.see.Reads as see-reads
 
 -- src/lib.rt:145:23
 see-requires : tie.Need-see-requires

@@ -1,18 +1,18 @@
-use Rattle.views.specs.ViewLaws.{view-refused, view-few, view-nothing, view-seen, seen-law}
+use Rattle.sights.specs.ViewLaws.{view-refused, view-few, view-nothing, view-seen, seen-law}
 use Rattle.state.specs.Central.{central}
 use native.Mathlib.Omega.{arith}
 use Prim.Native.Nat.{ℕ, _<_}
 use borrow.Author.Needs.{needs}
-use Rattle.views.proofs.see.Statement.{statement}
-use Rattle.views.proofs.see.Tie as tie
-use Rattle.views.proofs.see.Reads as reads
-use Rattle.views.proofs.see.Lts as lts
+use Rattle.sights.proofs.see.Statement.{statement}
+use Rattle.sights.proofs.see.Tie as tie
+use Rattle.sights.proofs.see.Reads as reads
+use Rattle.sights.proofs.see.Lts as lts
 use Rattle.fit.proofs.gate_reader.Reads as gate-reader-reads
 use Rattle.places.proofs.report_at.Reads as report-at-reads
 use Rattle.reports.proofs.address_of.Reads as address-of-reads
 use Rattle.state.proofs.parts.reports_of.Reads as reports-of-reads
-use Rattle.views.proofs.response_in.Reads as response-in-reads
-use Rattle.views.proofs.wide.Reads as wide-reads
+use Rattle.sights.proofs.response_in.Reads as response-in-reads
+use Rattle.sights.proofs.wide.Reads as wide-reads
 
 -- src/lib.rt:65:9
 gate-reader-requires : tie.Need-gate-reader-requires

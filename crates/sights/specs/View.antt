@@ -14,12 +14,12 @@ use Rattle.state.specs.declared.Reports.{Reports}
 use Rattle.fit.specs.Refusals.{accepted}
 use Rattle.fit.specs.Gate.{gateReader, unless}
 use Rattle.reports.specs.Key.{addressOf}
-use Rattle.views.specs.declared.Span.{Span}
-use Rattle.views.specs.declared.Response.{Response}
-use Rattle.views.specs.declared.Response.the-variants as response
-use Rattle.views.specs.declared.AdvReport.{AdvReport}
-use Rattle.views.specs.declared.Seen.{Seen}
-use Rattle.views.specs.declared.Seen.the-variants as seen
+use Rattle.sights.specs.declared.Span.{Span}
+use Rattle.sights.specs.declared.Response.{Response}
+use Rattle.sights.specs.declared.Response.the-variants as response
+use Rattle.sights.specs.declared.AdvReport.{AdvReport}
+use Rattle.sights.specs.declared.Seen.{Seen}
+use Rattle.sights.specs.declared.Seen.the-variants as seen
 
 abbrev pub span : ℕ → ℕ → Span
 span at n = record { at = at; len = n }

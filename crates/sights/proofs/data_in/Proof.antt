@@ -1,8 +1,8 @@
 use borrow.Author.Needs.{needs}
-use Rattle.views.proofs.data_in.Statement.{statement}
-use Rattle.views.proofs.data_in.Tie as tie
-use Rattle.views.proofs.data_in.Reads as reads
-use Rattle.views.proofs.data_in.Lts as lts
+use Rattle.sights.proofs.data_in.Statement.{statement}
+use Rattle.sights.proofs.data_in.Tie as tie
+use Rattle.sights.proofs.data_in.Reads as reads
+use Rattle.sights.proofs.data_in.Lts as lts
 
 -- src/lib.rt:101:29
 enum-told : tie.Need-enum-told

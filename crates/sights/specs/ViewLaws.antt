@@ -19,13 +19,13 @@ use Rattle.state.specs.declared.Reports.{Reports}
 use Rattle.fit.specs.Facts.{Fit}
 use Rattle.fit.specs.Gate.{gateReader, unless}
 use Rattle.fit.specs.GateLaws.{PassedReader, passed-reader, refuses, accepts}
-use Rattle.views.specs.declared.Span.{Span}
-use Rattle.views.specs.declared.AdvReport.{AdvReport}
-use Rattle.views.specs.declared.Response.{Response}
-use Rattle.views.specs.declared.Response.the-variants as response
-use Rattle.views.specs.declared.Seen.{Seen}
-use Rattle.views.specs.declared.Seen.the-variants as seen
-use Rattle.views.specs.View.{span, nowhere, responseIn, reportOf, view, dataIn, spanOf, answerIn, part, partAt, bodySeen, bodySeenAt, viewRefusal}
+use Rattle.sights.specs.declared.Span.{Span}
+use Rattle.sights.specs.declared.AdvReport.{AdvReport}
+use Rattle.sights.specs.declared.Response.{Response}
+use Rattle.sights.specs.declared.Response.the-variants as response
+use Rattle.sights.specs.declared.Seen.{Seen}
+use Rattle.sights.specs.declared.Seen.the-variants as seen
+use Rattle.sights.specs.View.{span, nowhere, responseIn, reportOf, view, dataIn, spanOf, answerIn, part, partAt, bodySeen, bodySeenAt, viewRefusal}
 
 -- ---- the ways to an answer
 

@@ -1,8 +1,8 @@
 use borrow.Author.Needs.{needs}
-use Rattle.views.proofs.span_of.Statement.{statement}
-use Rattle.views.proofs.span_of.Tie as tie
-use Rattle.views.proofs.span_of.Reads as reads
-use Rattle.views.proofs.span_of.Lts as lts
+use Rattle.sights.proofs.span_of.Statement.{statement}
+use Rattle.sights.proofs.span_of.Tie as tie
+use Rattle.sights.proofs.span_of.Reads as reads
+use Rattle.sights.proofs.span_of.Lts as lts
 
 -- src/lib.rt:111:30
 enum-told : tie.Need-enum-told

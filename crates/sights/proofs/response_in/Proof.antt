@@ -1,12 +1,12 @@
 use Rattle.places.specs.Sizes.{dataSize}
 use borrow.Author.Tests.{le-leb, lt-leb}
 use borrow.Author.Needs.{needs}
-use Rattle.views.proofs.response_in.Statement.{statement}
-use Rattle.views.proofs.response_in.Tie as tie
-use Rattle.views.proofs.response_in.Reads as reads
-use Rattle.views.proofs.response_in.Lts as lts
+use Rattle.sights.proofs.response_in.Statement.{statement}
+use Rattle.sights.proofs.response_in.Tie as tie
+use Rattle.sights.proofs.response_in.Reads as reads
+use Rattle.sights.proofs.response_in.Lts as lts
 use Rattle.places.proofs.response_at.Reads as response-at-reads
-use Rattle.views.proofs.wide.Reads as wide-reads
+use Rattle.sights.proofs.wide.Reads as wide-reads
 
 -- src/lib.rt:55:9
 returns : tie.Need-returns

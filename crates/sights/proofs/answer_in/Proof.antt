@@ -1,9 +1,9 @@
 use borrow.Author.Needs.{needs}
-use Rattle.views.proofs.answer_in.Statement.{statement}
-use Rattle.views.proofs.answer_in.Tie as tie
-use Rattle.views.proofs.answer_in.Reads as reads
-use Rattle.views.proofs.answer_in.Lts as lts
-use Rattle.views.proofs.span_of.Reads as span-of-reads
+use Rattle.sights.proofs.answer_in.Statement.{statement}
+use Rattle.sights.proofs.answer_in.Tie as tie
+use Rattle.sights.proofs.answer_in.Reads as reads
+use Rattle.sights.proofs.answer_in.Lts as lts
+use Rattle.sights.proofs.span_of.Reads as span-of-reads
 
 -- src/lib.rt:120:29
 enum-told : tie.Need-enum-told
