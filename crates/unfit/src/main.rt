@@ -1,5 +1,5 @@
-// States that aren't fit, given to every call but on_fragment (crates/unfit_link): each is refused with 1, and state, store and
-// output stay as they were. Reads rows from standard input (crates/unfit_states/src/rows.rt) and prints what was got, clause by clause.
+// States that aren't fit, given to every call: each is refused with 1, and state, store and output stay as they were. Reads rows
+// from standard input (crates/unfit_states/src/rows.rt) and prints what was got, clause by clause.
 mod tried;
 
 use libc::STDIN_FILENO;

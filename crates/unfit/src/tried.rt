@@ -27,6 +27,9 @@ const HEARD: Address = Address {
 
 const DATA: [u8; 4] = [0x03, 0x03, 0x0F, 0x18];
 
+// A whole frame: an MTU request of the peer (Core Vol 3 Part F 3.4.2.1), which is answered.
+const FRAME: [u8; 7] = [0x03, 0x00, 0x04, 0x00, 0x02, 0x17, 0x00];
+
 fn one_step() -> Batch {
     Batch {
         steps: [Placed {
@@ -50,6 +53,12 @@ fn time_passes(m: &mut [u64], store: &mut [u8], out: &mut [u8]) {
 
 fn connect(m: &mut [u64], store: &mut [u8], out: &mut [u8]) {
     let a = events::on_connected(state_of(m), store, out, HANDLE, AT);
+    score::loud(m, a, store, out);
+}
+
+fn fragment(m: &mut [u64], store: &mut [u8], out: &mut [u8]) {
+    let frame = FRAME;
+    let a = link::on_fragment(state_of(m), store, out, AT, true, &frame);
     score::loud(m, a, store, out);
 }
 
@@ -123,6 +132,7 @@ fn with_output(m: &mut [u64], store: &mut [u8], out: &mut [u8]) {
     push(m, store, out);
     time_passes(m, store, out);
     connect(m, store, out);
+    fragment(m, store, out);
 }
 
 // The others.
