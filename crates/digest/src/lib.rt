@@ -1,5 +1,5 @@
 // One number of a whole state or of lent bytes, for programs that test whether a call left them as they were. What differs in one
-// field alone has another number.
+// half of a field alone has another number.
 mod steps;
 mod tables;
 
