@@ -21,6 +21,7 @@ use Rattle.turns.specs.World.{Held, Told, World, onState}
 use Rattle.turns.specs.Send.{send}
 use Rattle.starts.specs.Wait.{checkWait}
 use Rattle.frames.specs.Payload.{payloadAt, payload, withMtu}
+pub use Rattle.notices.specs.Notices.{noted}
 
 -- ---- signaling and security manager
 
@@ -55,10 +56,6 @@ exchange w theirs =
     }
 
 -- ---- notifications and indications
-
--- one more was notified
-abbrev pub noted : Counters → Counters
-noted k = record { «next_index» = k .«next_index»; «refused_steps» = k .«refused_steps»; notified = k .notified + 1; «wait_from» = k .«wait_from» }
 
 -- it is kept with its value: n bytes behind the opcode and the handle (Part F 3.4.7)
 unfoldable pub keepOne : Held → Micros → ℕ → ℕ → Bool → Held

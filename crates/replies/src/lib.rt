@@ -10,7 +10,7 @@ ghost use Rattle.fit.specs.Fit.{mostNotified};
 ghost use Rattle.turns.specs.World.{held, told, world};
 ghost use Rattle.turns.specs.Send.{Room};
 ghost use Rattle.frames.specs.Payload.{payloadAt, Reads};
-ghost use Rattle.replies.specs.Replies.{reply, asksUpdate, onSignaling, onSmp, refuse, exchange, noted, keepOne, confirmed, notice};
+ghost use Rattle.replies.specs.Replies.{reply, asksUpdate, onSignaling, onSmp, refuse, exchange, keepOne, confirmed, notice};
 use frames::PAYLOAD_AT;
 use signaling::Update;
 use state::Counters;
@@ -130,16 +130,6 @@ pub fn exchange(t: Turn, out: &mut [u8], theirs: u16) -> Turn
 
 // ---- notifications and indications
 
-// One more was notified.
-fn note(k: Counters) -> Counters
-    requires { ⌜ k .notified < mostNotified ⌝ }
-    ensures { λ r. ⌜ r ≡ noted k ⌝ }
-{
-    let mut o = k;
-    o.notified = k.notified + 1;
-    o
-}
-
 // A notification is kept with its value, the n bytes behind the opcode and the handle; all are counted.
 fn keep_one(
     s: State,
@@ -166,7 +156,7 @@ fn keep_one(
         },
     );
     let a = state::parts::with_notifications(s, more);
-    state::parts::with_counters(a, note(counters))
+    state::parts::with_counters(a, notices::note(counters))
 }
 
 // An indication is confirmed.

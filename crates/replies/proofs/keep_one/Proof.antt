@@ -7,7 +7,7 @@ use Rattle.replies.proofs.keep_one.Statement.{statement}
 use Rattle.replies.proofs.keep_one.Tie as tie
 use Rattle.replies.proofs.keep_one.Reads as reads
 use Rattle.replies.proofs.keep_one.Lts as lts
-use Rattle.replies.proofs.note.Reads as note-reads
+use Rattle.notices.proofs.note.Reads as note-reads
 use Rattle.state.proofs.parts.counters_of.Reads as counters-of-reads
 use Rattle.state.proofs.parts.notifications_of.Reads as notifications-of-reads
 use Rattle.state.proofs.parts.with_counters.Reads as with-counters-reads
