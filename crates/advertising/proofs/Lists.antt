@@ -1,14 +1,13 @@
 -- How the UUIDs of a list go on, one at a time, and how one is read.
 use Prim.Native.Nat.{ℕ, _+_, _-_, _/_, _≤_, _<_}
-use mathlib.Core.Path.{_≡_, refl, ap, _∙_}
+use mathlib.Core.Path.{_≡_, refl, _∙_}
 use mathlib.Core.Bool.{Bool, true, false, _||_}
-use mathlib.Core.List.{List, [], _∷_}
+use mathlib.Core.List.{List, []}
 use mathlib.Core.Logic.{inl, inr}
 use native.Mathlib.Omega.{arith}
-use native.Mathlib.Numerals.{add-one}
-use native.Mathlib.Nat.{div-eq-of-lt, div-eq-sub-div}
+use native.Mathlib.Nat.{div-eq-of-lt}
 use lib.ListN.{length, take, drop, length-drop}
-use lib.Seq.{drop-drop, take-take, take-add, drop-at, length-take-le}
+use lib.Seq.{length-take-le}
 use lib.Dec.{eqb}
 use Rattle.base.specs.Choice.{pick, within, among}
 use Rattle.base.specs.Bytes.{leAt}
@@ -16,23 +15,16 @@ use Rattle.base.proofs.ByteLaws.{leAt-in}
 use Rattle.uuid.specs.Value.{num, ofNum, shortOf}
 use Rattle.uuid.specs.declared.Uuid.{Uuid}
 use Rattle.uuid.specs.Laws.{num-of}
-use Rattle.advertising.specs.Ad.{widthOf, IsWidth, chunks, entries, uuidOf, uuids}
+use Rattle.entries.specs.Cut.{chunks, entries}
+use Rattle.entries.proofs.CutLaws.{entry-here}
+use Rattle.advertising.specs.Ad.{widthOf, IsWidth, uuidOf, uuids}
 
 -- the bytes from index i up to index e
 abbrev pub part : List ℕ → ℕ → ℕ → List ℕ
 part s i e = take (e - i) (drop i s)
 
-drop-take : (n m : ℕ) (s : List ℕ) → n ≤ length s → drop n (take (n + m) s) ≡ take m (drop n s)
-drop-take n m s h = rw take-add (drop-at (take n s) (take m (drop n s)) n (length-take-le n s h))
-
-entries-step : (w : ℕ) (s : List ℕ) → 0 < w → w ≤ length s → entries w s ≡ take w s ∷ entries w (drop w s)
-unfolding chunks
-entries-step w s p h =
-    let d : length s / w ≡ (length s - w) / w + 1 = div-eq-sub-div p h in
-    rw (d, add-one ((length s - w) / w), length-drop)
-
 entries-stop : (w : ℕ) (s : List ℕ) → length s < w → entries w s ≡ []
-unfolding chunks
+unfolding entries chunks
 entries-stop w s h =
     let d : length s / w ≡ 0 = div-eq-of-lt h in
     rw d
@@ -41,20 +33,13 @@ module _ (s : List ℕ) (i e : ℕ) (inside : e ≤ length s) where
   pub part-length : length (part s i e) ≡ e - i
   part-length = length-take-le (e - i) (drop i s) (rw length-drop (omega arith))
 
-  part-drop : (w : ℕ) → i + w ≤ e → drop w (part s i e) ≡ part s (i + w) e
-  part-drop w h =
-      let q : e - i ≡ w + (e - (i + w)) = omega arith in
-      rw q (drop-take w (e - (i + w)) (drop i s) (rw length-drop (omega arith)) ∙ ap (take (e - (i + w))) (drop-drop w i s))
-
-  part-take : (w : ℕ) → i + w ≤ e → take w (part s i e) ≡ take w (drop i s)
-  part-take w h = take-take w (e - i) (drop i s) (omega arith)
-
   -- one UUID more
   among-step : (u w : ℕ) → 0 < w → i + w ≤ e
       → among u (uuids w (part s i e)) ≡ (eqb (uuidOf w (take w (drop i s))) u || among u (uuids w (part s (i + w) e)))
   unfolding among
   among-step u w p h =
-      rw (entries-step w (part s i e) p (rw part-length (omega arith)), part-take w h, part-drop w h)
+      let f : i + w - i ≡ w = omega arith in
+      rw (entry-here w i e s p h inside, f)
 
   -- r is the answer of the test
   pub among-here : (u w : ℕ) (r : Bool) → 0 < w → i + w ≤ e → r ≡ eqb (uuidOf w (take w (drop i s))) u → r ≡ true → among u (uuids w (part s i e)) ≡ true

@@ -1,5 +1,5 @@
 -- Advertising data: its structures (Core Vol 3 Part C 11), and the service UUIDs that they list (Core Supplement Part A 1.1).
-use Prim.Native.Nat.{ℕ, zero, suc, _+_, _-_, _/_}
+use Prim.Native.Nat.{ℕ, zero, suc, _+_, _-_}
 use mathlib.Core.Path.{_≡_}
 use mathlib.Core.Logic.{_⊎_}
 use mathlib.Core.List.{List, [], _∷_, map}
@@ -8,6 +8,7 @@ use lib.ListN.{length, getD, take, drop}
 use lib.Dec.{eqb, ltb}
 use Rattle.base.specs.Choice.{pick, within, among}
 use Rattle.base.specs.Bytes.{le}
+use Rattle.entries.specs.Cut.{entries}
 use Rattle.uuid.specs.Value.{short}
 use Rattle.advertising.specs.declared.Place.{Place}
 use Rattle.advertising.specs.declared.Place.the-variants.{Body, Nothing}
@@ -47,19 +48,11 @@ widthOf kind = pick (within 0x02 0x03 kind) 2 (pick (within 0x04 0x05 kind) 4 (p
 abbrev pub IsWidth : ℕ → Type 0
 IsWidth w = (w ≡ 2) ⊎ ((w ≡ 4) ⊎ (w ≡ 16))
 
--- n elements of w bytes, one after another
-unfoldable pub chunks : ℕ → ℕ → List ℕ → List (List ℕ)
-chunks zero w s = []
-chunks (suc n) w s = take w s ∷ chunks n w (drop w s)
-
--- the whole elements of w bytes: a remainder is skipped
-abbrev pub entries : ℕ → List ℕ → List (List ℕ)
-entries w s = chunks (length s / w) w s
-
 -- the 128-bit number of a UUID of w bytes
 unfoldable pub uuidOf : ℕ → List ℕ → ℕ
 uuidOf w e = pick (eqb w 16) (le e) (short (le e))
 
+-- of the whole elements of w bytes: a remainder is skipped
 abbrev pub uuids : ℕ → List ℕ → List ℕ
 uuids w s = map (uuidOf w) (entries w s)
 

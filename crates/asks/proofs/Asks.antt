@@ -1,19 +1,17 @@
 -- What a hop does to the request that is awaited: leaves it, ends the wait, or sends one.
-use Prim.Native.Nat.{ℕ, _+_, _≤_}
-use mathlib.Core.Path.{_≡_, refl, sym, ap, _∙_, subst}
-use mathlib.Core.Bool.{Bool, true, false, not, _&&_, false≢true}
-use mathlib.Core.List.{List, [], _∷_}
+use Prim.Native.Nat.{ℕ, _≤_}
+use mathlib.Core.Path.{_≡_, refl, _∙_}
+use mathlib.Core.Bool.{Bool, true, false, not, _&&_}
+use mathlib.Core.List.{List}
 use lib.ListN.{length, getD}
 use lib.Dec.{eqb}
 use Rattle.base.specs.Choice.{pick}
 use Rattle.time.specs.declared.Micros.{Micros}
 use Rattle.wire.specs.Numbers.{cidAtt}
-use Rattle.state.specs.Central.{Central}
-use Rattle.state.specs.declared.Bearer.{Bearer}
 use Rattle.state.specs.declared.StepStatus.{StepStatus}
 use Rattle.fit.specs.Fit.{awaits, isRequest}
 use Rattle.fit.specs.Steps.{mostMtu}
-use Rattle.turns.specs.World.{Held, Told, World, onHeld, onTold, onState}
+use Rattle.turns.specs.World.{Held, Told, World, onHeld}
 use Rattle.turns.specs.Finish.{ended, finish}
 use Rattle.turns.specs.Send.{send, request}
 use Rattle.discovery.specs.Discovery.{asking}

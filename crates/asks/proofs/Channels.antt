@@ -1,18 +1,15 @@
 -- What a frame that is read does to the request that is awaited.
-use Prim.Native.Nat.{ℕ, zero, suc, _+_, _-_, _*_, _≤_, _<_, max, min}
-use mathlib.Core.Path.{_≡_, refl, sym, ap, _∙_, subst}
-use mathlib.Core.Bool.{Bool, true, false, _&&_, _||_}
-use mathlib.Core.List.{List, [], _∷_, _++_}
+use Prim.Native.Nat.{ℕ, _+_, _-_, _≤_}
+use mathlib.Core.Path.{_≡_, refl, ap}
+use mathlib.Core.Bool.{Bool, true, false, _&&_}
+use mathlib.Core.List.{List, [], _∷_}
 use native.Mathlib.Omega.{arith}
 use lib.ListN.{length, getD}
 use lib.Dec.{eqb, ltb, leb}
 use Rattle.base.specs.Choice.{pick, among}
 use Rattle.base.specs.Bytes.{leAt}
-use Rattle.places.specs.Sizes.{storeSize, heldAt, mostResults, resultSize, resultAt}
 use Rattle.queues.specs.Blocks.{bytes}
-use Rattle.queues.specs.BlockLaws.{length-stored, stored-below}
 use Rattle.time.specs.declared.Micros.{Micros}
-use Rattle.uuid.specs.declared.Uuid.{Uuid}
 use Rattle.wire.specs.Numbers.{cidAtt, cidSignaling, cidSmp}
 use Rattle.att_pdu.specs.Numbers.{opErrorRsp, opExchangeMtuReq, opHandleValueNtf, opHandleValueInd, opReadRsp, opWriteRsp, errInvalidHandle, errRequestNotSupported, errAttributeNotFound}
 use Rattle.services.specs.Service as service
@@ -24,15 +21,13 @@ use Rattle.characteristics.specs.Characteristic as characteristic
 use Rattle.characteristics.specs.declared.Found as characteristics-found
 use Rattle.descriptors.specs.declared.Named.{Named}
 use Rattle.descriptors.specs.Named.{descriptorsNamed}
-use Rattle.waits.specs.Kept.{part}
 use Rattle.state.specs.Central.{Central, withServices, withCharacteristics}
 use Rattle.state.specs.declared.StepStatus.{StepStatus}
 use Rattle.state.specs.declared.StepStatus.the-variants.{Ok, NotFound, AttError, TableFull}
 use Rattle.turns.specs.World.{Held, World, onHeld, onTold, onState}
-use Rattle.turns.specs.Finish.{finish}
 use Rattle.discovery.specs.Discovery.{lastHandle, discoverServices, discoverCharacteristics, discoverDescriptors}
 use Rattle.starts.specs.Wait.{checkWait}
-use Rattle.frames.specs.Payload.{payloadAt, payloadSize, payload, withMtu}
+use Rattle.frames.specs.Payload.{payloadAt, payload, withMtu}
 use Rattle.replies.specs.Replies.{onSignaling, onSmp, refuse, exchange, keepOne, notice}
 use Rattle.questions.specs.declared.Goal.{Goal}
 use Rattle.questions.specs.declared.Goal.the-variants as goal
@@ -41,7 +36,7 @@ use Rattle.questions.specs.declared.Asked.the-variants as asked-variants
 use Rattle.rules.specs.Responses.{askedBy, over, become, serviceOf, entriesOf, walkInto, servicesDone, servicesFound, servicesHeard, characteristicsFound, characteristicsHeard, afterRange, goOn, widthOf, descriptorsFound, descriptorsHeard, rangeDone, characteristicsDone, absent, smallerMtu, valueRead, present, failed, counts, unasked, taken, onResponse}
 use Rattle.rules.specs.Att.{searches, accesses, silent, otherRequest, byOpcode, onAtt}
 use Rattle.rules.specs.Channel.{onChannel}
-use Rattle.fit.specs.Fit.{awaits, isRequest}
+use Rattle.fit.specs.Fit.{isRequest}
 use Rattle.att_pdu.specs.Pdu.{attError, exchangeMtuRsp, confirmation}
 use Rattle.turns.specs.World.{Told}
 use Rattle.turns.specs.Send.{send}
@@ -54,7 +49,7 @@ use lib.ListN.{take}
 use lib.ListN.{length-take}
 use Rattle.att_pdu.specs.PduLaws.{length-attError, length-exchangeMtuRsp}
 use Rattle.signaling.specs.AnswerLaws.{signaling-sized, smp-sized}
-use Rattle.asks.proofs.Asks.{Asks, calm, none, asks, Calmly, As, Voice, hushed, speaks, itself, asks-none, mild, asks-then, asks-quit, asks-finish, not-awaited}
+use Rattle.asks.proofs.Asks.{Asks, calm, none, asks, Calmly, Voice, hushed, speaks, itself, asks-none, mild, asks-then, asks-quit, asks-finish, not-awaited}
 use Rattle.asks.proofs.Starts.{asks-ends, asks-services, asks-descriptors, asks-characteristics, asks-check}
 
 abbrev pub Runs : World → Type 0

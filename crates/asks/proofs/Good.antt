@@ -1,55 +1,47 @@
 -- A Read ends well only by the value of a read response that came after its request went out, on the same link, and at once.
-use Prim.Native.Nat.{ℕ, zero, suc, _+_, _-_, _≤_, _<_}
+use Prim.Native.Nat.{ℕ, zero, suc, _+_, _-_, _<_}
 use mathlib.Core.Path.{_≡_, refl, sym, ap, _∙_, subst}
 use mathlib.Core.Bool.{Bool, true, false, not, _&&_, false≢true}
 use mathlib.Core.List.{List, [], _∷_, _++_, append-nil, append-assoc}
 use native.Mathlib.Omega.{arith}
-use lib.ListN.{length, take, drop, getD, length-append, length-drop, List·getD-append}
+use lib.ListN.{length, take, drop, getD, length-append, List·getD-append}
 use lib.Seq.{getD-at, getD-drop, drop-drop}
 use lib.Dec.{eqb, ltb}
-use borrow.Author.Tests.{ltb-true, ltb-false, eqb-true, eqb-false}
+use borrow.Author.Tests.{ltb-true, ltb-false, eqb-true}
 use Rattle.base.specs.Choice.{pick}
-use Rattle.places.specs.Sizes.{mostResults, heldAt}
+use Rattle.places.specs.Sizes.{mostResults}
 use Rattle.queues.specs.Blocks.{Valued, bytes}
 use Rattle.queues.specs.Queue.{newest, pushed}
 use Rattle.queues.specs.QueueLaws.{pushed-newest}
 use Rattle.time.specs.declared.Micros.{Micros}
 use Rattle.uuid.specs.declared.Uuid.{Uuid}
-use Rattle.wire.specs.Numbers.{cidAtt}
 use Rattle.att_pdu.specs.Numbers.{opErrorRsp, opReadReq, opReadRsp}
-use Rattle.state.specs.Central.{Central}
 use Rattle.state.specs.Fresh.{noQueued, noResult}
 use Rattle.state.specs.declared.Queued.{Queued}
-use Rattle.state.specs.declared.Running.{Running}
-use Rattle.state.specs.declared.Step.{Step}
 use Rattle.state.specs.declared.Step.the-variants.{Read}
 use Rattle.state.specs.declared.StepResult.{StepResult}
 use Rattle.state.specs.declared.StepStatus.{StepStatus}
 use Rattle.state.specs.declared.StepStatus.the-variants.{Ok}
-use Rattle.fit.specs.Fit.{awaits}
 use Rattle.fit.specs.FitLaws.{both}
 use Rattle.turns.specs.World.{Held, World, onHeld}
-use Rattle.turns.specs.Ready.{Ready}
-use Rattle.waiting.specs.Waiting.{takeStep, live}
+use Rattle.waiting.specs.Waiting.{takeStep, waiting}
 use Rattle.starts.specs.Start.{ends, start}
 use Rattle.keeps.specs.Sound.{Sound}
 use Rattle.script.specs.Script.{canGo, stepOnce}
-use Rattle.script.proofs.AdvanceLaws.{GoesOn, goes-on}
-use Rattle.frames.specs.Payload.{payloadAt, payload, payloadSize}
+use Rattle.script.proofs.AdvanceLaws.{goes-on}
+use Rattle.frames.specs.Payload.{payloadAt, payload}
 use Rattle.rules.specs.Responses.{counts}
 use Rattle.rules.specs.Channel.{onChannel}
-use Rattle.trails.specs.Trail.{News, att-heard, Pass, pass, final, met, parted, cameOn}
+use Rattle.trails.specs.Trail.{att-heard, Pass, pass, met, parted, cameOn}
 use Rattle.trails.specs.Log.{keptResults, upTo, newer, gave}
-use Rattle.trails.proofs.Hops.{Sizes, Still, Open, Hop, ended, began, meets, parts, still, acted}
+use Rattle.trails.proofs.Hops.{Open, Hop, ended, began, meets, parts, still, acted}
 use Rattle.wires.specs.Wire.{sentIn}
-use Rattle.books.specs.InLine.{inLine}
 use Rattle.books.proofs.Numbered.{gave-one}
 use Rattle.books.proofs.Gives.{Gives, nothing, one, Whole, kept-values}
-use Rattle.books.proofs.Starts.{gives-ends, gives-start, quiet}
-use Rattle.books.proofs.Gives.{apart-state}
+use Rattle.books.proofs.Starts.{gives-ends, gives-start}
 use Rattle.books.proofs.Channels.{gives-channel}
 use Rattle.books.proofs.Books.{Books, books-take, kept-take, whole-take, whole}
-use Rattle.asks.specs.Events.{Event, came, asked, result, askedIn, newsOf, resultsOf, eventsIn, Calm, Awaited, Answered}
+use Rattle.asks.specs.Events.{Event, came, asked, result, askedIn, newsOf, resultsOf, eventsIn, Awaited, Answered}
 use Rattle.asks.proofs.Asks.{As}
 use Rattle.asks.proofs.Reading as reading
 use Rattle.asks.proofs.Watch.{Waits, none-gave, sent-none}
@@ -117,8 +109,8 @@ running-is : (l : List (Valued StepResult)) (q : List Queued) (h : Held) (u : Uu
     → getD q (length l) noQueued .step ≡ Read u → h .state .running .step ≡ Read u
 running-is l q h u b a e =
     let x : Queued = record { step = h .state .running .step; len = h .state .running .len } in
-    let f : x ∷ live (h .state .queue) ≡ drop (length l) q = sym (ap (λ (y : Bool). pick y (x ∷ []) [] ++ live (h .state .queue)) a) ∙ b .line in
-    sym (ap (λ (y : Queued). y .step) (head-is (length l) q x (live (h .state .queue)) f)) ∙ e
+    let f : x ∷ waiting (h .state .queue) ≡ drop (length l) q = sym (ap (λ (y : Bool). pick y (x ∷ []) [] ++ waiting (h .state .queue)) a) ∙ b .line in
+    sym (ap (λ (y : Queued). y .step) (head-is (length l) q x (waiting (h .state .queue)) f)) ∙ e
 
 -- ---- a read response
 

@@ -1,57 +1,41 @@
 -- How a Read can end: by the value of a read response, or not well.
-use Prim.Native.Nat.{ℕ, zero, suc, _+_, _-_, _*_, _≤_, _<_, max, min}
+use Prim.Native.Nat.{ℕ, _+_, _-_, _≤_}
 use mathlib.Core.Path.{_≡_, refl, sym, ap, _∙_, subst}
-use mathlib.Core.Bool.{Bool, true, false, _&&_, _||_}
-use mathlib.Core.List.{List, [], _∷_, _++_}
+use mathlib.Core.Bool.{Bool, true, false, _&&_}
+use mathlib.Core.List.{List, [], _∷_}
 use native.Mathlib.Omega.{arith}
-use lib.ListN.{length, getD}
-use lib.Dec.{eqb, ltb, leb}
+use lib.ListN.{getD}
+use lib.Dec.{eqb, leb}
 use borrow.Author.Tests.{eqb-true}
 use Rattle.base.specs.Choice.{pick, among}
 use Rattle.base.specs.Bytes.{leAt}
-use Rattle.places.specs.Sizes.{storeSize, heldAt, mostResults, resultSize, resultAt}
+use Rattle.places.specs.Sizes.{heldAt, mostResults}
 use Rattle.queues.specs.Blocks.{bytes}
-use Rattle.queues.specs.BlockLaws.{length-stored, stored-below}
 use Rattle.time.specs.declared.Micros.{Micros}
 use Rattle.uuid.specs.declared.Uuid.{Uuid}
 use Rattle.wire.specs.Numbers.{cidAtt, cidSignaling, cidSmp}
-use Rattle.att_pdu.specs.Numbers.{opErrorRsp, opExchangeMtuReq, opHandleValueNtf, opHandleValueInd, opReadRsp, opWriteRsp, errInvalidHandle, errRequestNotSupported, errAttributeNotFound}
+use Rattle.att_pdu.specs.Numbers.{opErrorRsp, opExchangeMtuReq, opHandleValueNtf, opHandleValueInd, opReadRsp, errInvalidHandle, errRequestNotSupported, errAttributeNotFound}
 use Rattle.services.specs.Service as service
-use Rattle.services.specs.declared.Service.{Service}
 use Rattle.services.specs.declared.Found as services-found
 use Rattle.services.specs.declared.Which as service-which
 use Rattle.services.specs.declared.Which.the-variants as which-service
 use Rattle.characteristics.specs.Characteristic as characteristic
 use Rattle.characteristics.specs.declared.Found as characteristics-found
-use Rattle.descriptors.specs.declared.Named.{Named}
-use Rattle.descriptors.specs.Named.{descriptorsNamed}
-use Rattle.waits.specs.Kept.{part}
-use Rattle.state.specs.Central.{Central, withServices, withCharacteristics}
 use Rattle.state.specs.declared.StepStatus.{StepStatus}
-use Rattle.state.specs.declared.StepStatus.the-variants.{Ok, NotFound, AttError, TableFull}
-use Rattle.turns.specs.World.{Held, World, onHeld, onTold, onState}
-use Rattle.turns.specs.Finish.{finish}
-use Rattle.discovery.specs.Discovery.{lastHandle, discoverServices, discoverCharacteristics, discoverDescriptors}
+use Rattle.state.specs.declared.StepStatus.the-variants.{Ok, NotFound, AttError}
+use Rattle.turns.specs.World.{Held, World, onHeld, onTold}
 use Rattle.starts.specs.Wait.{checkWait}
-use Rattle.frames.specs.Payload.{payloadAt, payloadSize, payload, withMtu}
+use Rattle.frames.specs.Payload.{payloadAt, payloadSize, payload}
 use Rattle.replies.specs.Replies.{onSignaling, onSmp, refuse, exchange, keepOne, notice}
-use Rattle.questions.specs.declared.Goal.{Goal}
 use Rattle.questions.specs.declared.Goal.the-variants as goal
 use Rattle.questions.specs.declared.Asked.{Asked}
 use Rattle.questions.specs.declared.Asked.the-variants as asked-variants
-use Rattle.rules.specs.Responses.{askedBy, over, become, serviceOf, entriesOf, walkInto, servicesDone, servicesFound, servicesHeard, characteristicsFound, characteristicsHeard, afterRange, goOn, widthOf, descriptorsFound, descriptorsHeard, rangeDone, characteristicsDone, absent, smallerMtu, valueRead, present, failed, counts, unasked, taken, onResponse}
+use Rattle.rules.specs.Responses.{askedBy, over, become, absent, valueRead, present, failed, counts, unasked, taken, onResponse}
 use Rattle.rules.specs.Att.{searches, accesses, silent, otherRequest, byOpcode, onAtt}
 use Rattle.rules.specs.Channel.{onChannel}
-use Rattle.fit.specs.Fit.{awaits, isRequest}
-use Rattle.att_pdu.specs.Pdu.{attError, exchangeMtuRsp, confirmation}
-use Rattle.turns.specs.World.{Told}
-use Rattle.turns.specs.Send.{send, request}
-use Rattle.signaling.specs.Answer.{signalingAnswer, smpAnswer}
+use Rattle.turns.specs.Send.{request}
 use Rattle.signaling.specs.declared.Update as update
 use Rattle.signaling.specs.declared.Update.the-variants as update-variants
-use Rattle.fit.specs.Steps.{mostMtu}
-use Rattle.replies.specs.Replies.{reply, asksUpdate, confirmed}
-use lib.ListN.{take}
 use Rattle.state.specs.declared.Step.{Step}
 use Rattle.state.specs.declared.Step.the-variants.{Read}
 use Rattle.state.specs.declared.StepResult.{StepResult}
@@ -60,12 +44,11 @@ use Rattle.characteristics.specs.declared.Which as which
 use Rattle.characteristics.specs.declared.Which.the-variants as which-variants
 use Rattle.queues.specs.Queue.{pushed}
 use Rattle.queues.specs.Blocks.{Valued}
-use Rattle.starts.specs.declared.Awaited.{Awaited}
 use Rattle.starts.specs.declared.Awaited.the-variants as awaited-variants
 use Rattle.starts.specs.Wait.{awaited, checkFor}
-use Rattle.starts.specs.Start.{ends, unlinkedStep, startAlone, startUnlinked, startLinked, read, named, start}
+use Rattle.starts.specs.Start.{ends, startAlone, startUnlinked, startLinked, read, named, start}
 use Rattle.trails.specs.Log.{keptResults}
-use Rattle.books.proofs.Gives.{Whole, Apart, apart, apart-state, whole-same, finish-pushes, Goes-on}
+use Rattle.books.proofs.Gives.{Whole, apart, whole-same, finish-pushes}
 use Rattle.books.proofs.Channels as books
 
 -- the result of a step that ends so

@@ -4,20 +4,16 @@ use mathlib.Core.Path.{_≡_, refl, sym, ap, _∙_, subst}
 use mathlib.Core.Bool.{Bool, true, false, false≢true}
 use mathlib.Core.List.{List, [], _∷_, _++_, append-nil, append-assoc}
 use native.Mathlib.Omega.{arith}
-use lib.ListN.{length, getD, length-append, List·getD-append}
+use lib.ListN.{length, List·getD-append}
 use lib.Dec.{eqb}
 use borrow.Author.Tests.{eqb-true}
 use Rattle.base.specs.Choice.{pick}
 use Rattle.queues.specs.Blocks.{Valued}
-use Rattle.uuid.specs.declared.Uuid.{Uuid}
-use Rattle.state.specs.Central.{Central}
 use Rattle.state.specs.Fresh.{noQueued, freshCentral}
 use Rattle.state.specs.declared.Bearer.{Bearer}
 use Rattle.state.specs.declared.Queued.{Queued}
 use Rattle.state.specs.declared.Running.{Running}
 use Rattle.state.specs.declared.StepResult.{StepResult}
-use Rattle.state.specs.declared.Step.the-variants.{Read}
-use Rattle.state.specs.declared.StepStatus.the-variants.{Ok}
 use Rattle.fit.specs.Fit.{awaits}
 use Rattle.fit.specs.Refusals.{longFrame}
 use Rattle.turns.specs.World.{Held, World}
@@ -32,13 +28,13 @@ use Rattle.trails.specs.Calls.{Call, batch, timer, connected, disconnected, adv
 use Rattle.trails.specs.Trail.{Pass, begins, goes, final}
 use Rattle.trails.specs.Log.{gave, givenIn, givenBy, log, roomFor, takesIn, taken}
 use Rattle.trails.proofs.Ends.{refusedOf, does-law}
-use Rattle.trails.proofs.Hops.{Hop, Hops, none, more}
+use Rattle.trails.proofs.Hops.{Hops, none, more}
 use Rattle.trails.proofs.Goes.{good}
-use Rattle.books.proofs.Books.{Books, After, sound-hop, books-hop}
+use Rattle.books.proofs.Books.{Books, sound-hop, books-hop}
 use Rattle.books.proofs.Accounting.{fresh, books-fresh, books-begins, books-refused, books-same, put-all}
-use Rattle.asks.specs.Events.{Event, asked, eventsIn, eventsAlong, eventsBy, events, Awaited, Answered}
+use Rattle.asks.specs.Events.{Event, asked, eventsIn, eventsAlong, eventsBy, events}
 use Rattle.asks.proofs.Watch.{Waits, waits-hop}
-use Rattle.asks.proofs.Good.{noValued, Good, good-hop}
+use Rattle.asks.proofs.Good.{Good, good-hop}
 
 -- es happened, l was given, q was taken in
 pub record All (es : List Event) (l : List (Valued StepResult)) (q : List Queued) (h : Held) : Type 0 where

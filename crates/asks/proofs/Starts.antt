@@ -1,15 +1,14 @@
 -- What a step that begins does to the request that is awaited.
-use Prim.Native.Nat.{ℕ, zero, suc, _+_, _-_, _*_, _≤_, _<_, max}
-use mathlib.Core.Path.{_≡_, refl, sym, ap, _∙_, subst}
+use Prim.Native.Nat.{ℕ, _+_, _-_, _≤_, max}
+use mathlib.Core.Path.{_≡_, refl}
 use mathlib.Core.Bool.{Bool, true, false, _||_, false≢true}
-use mathlib.Core.List.{List, [], _∷_, _++_}
+use mathlib.Core.List.{List, [], _∷_}
 use native.Mathlib.Omega.{arith}
 use lib.ListN.{length}
 use lib.Dec.{eqb, ltb}
 use Rattle.base.specs.Choice.{pick}
-use Rattle.places.specs.Sizes.{storeSize, heldAt, runningAt}
+use Rattle.places.specs.Sizes.{heldAt, runningAt}
 use Rattle.time.specs.declared.Micros.{Micros}
-use Rattle.time.specs.declared.Millis.{Millis}
 use Rattle.services.specs.declared.Service.{Service}
 use Rattle.services.specs.declared.Which as service-which
 use Rattle.services.specs.declared.Which.the-variants as service-variants
@@ -22,7 +21,7 @@ use Rattle.characteristics.specs.declared.Which.the-variants.{At, Nothing}
 use Rattle.descriptors.specs.declared.Range.{Range}
 use Rattle.descriptors.specs.declared.Range.the-variants as range
 use Rattle.descriptors.specs.Range.{descriptorRange}
-use Rattle.state.specs.Central.{Central, withCounters, withBearer}
+use Rattle.state.specs.Central.{withCounters, withBearer}
 use Rattle.state.specs.declared.Step.{Step}
 use Rattle.state.specs.declared.Step.the-variants.{Scan, Connect, ExchangeMtu, DiscoverServices, DiscoverCharacteristics, Subscribe, Write, Read, WaitNotification, Wait, Disconnect, Capture, CaptureSecrets}
 use Rattle.state.specs.declared.StepStatus.{StepStatus}
@@ -39,8 +38,7 @@ use Rattle.starts.specs.declared.Alone.the-variants as alone
 use Rattle.starts.specs.declared.Awaited.{Awaited}
 use Rattle.starts.specs.declared.Awaited.the-variants as awaited-variants
 use Rattle.starts.specs.Wait.{waitPasses, passed, checkOne, awaited, checkFor, checkWait}
-use Rattle.starts.specs.Start.{ends, waitsFor, unlinkedStep, startAlone, startUnlinked, forgotten, discoverIn, subscribeAt, subscribe, commanded, write, read, terminated, asksTo, disconnect, named, startLinked, start}
-use Rattle.fit.specs.Fit.{awaits, isRequest}
+use Rattle.starts.specs.Start.{ends, waitsFor, unlinkedStep, startAlone, startUnlinked, forgotten, discoverIn, subscribeAt, subscribe, commanded, write, read, terminated, asksTo, disconnect, startLinked, start}
 use Rattle.turns.specs.Send.{send}
 use Rattle.wire.specs.Numbers.{cidAtt}
 use Rattle.att_pdu.specs.Numbers.{opWriteCmd}
@@ -53,7 +51,7 @@ use lib.ListN.{take, drop, length-append, length-take}
 use borrow.Author.Tests.{ltb-false}
 use Rattle.base.proofs.ByteLaws.{length-leBytes}
 use Rattle.att_pdu.specs.PduLaws.{length-exchangeMtuReq, length-findInformationReq, length-readByTypeReq, length-readByGroupTypeReq, length-readReq}
-use Rattle.asks.proofs.Asks.{Asks, calm, none, asks, Calmly, Voice, hushed, speaks, itself, asks-none, mild, asks-then, asks-finish, asks-request, asks-asking, not-awaited}
+use Rattle.asks.proofs.Asks.{Asks, calm, none, hushed, asks-none, mild, asks-then, asks-finish, asks-request, asks-asking, not-awaited}
 
 pub asks-ends : (w : World) (at : Micros) (st : StepStatus) → Asks w (onHeld w (ends (w .held) at st))
 asks-ends w at st = asks-finish w at st heldAt 0

@@ -1,16 +1,16 @@
 -- A request is awaited only by the step that sent it, on the link that it was sent on.
-use Prim.Native.Nat.{ℕ, _+_, _*_, _≤_}
+use Prim.Native.Nat.{ℕ, _+_, _≤_}
 use mathlib.Core.Path.{_≡_, refl, sym, ap, _∙_, subst}
 use mathlib.Core.Bool.{Bool, true, false, not, _&&_, false≢true}
 use mathlib.Core.List.{List, [], _∷_, _++_, append-nil, append-assoc}
 use native.Mathlib.Omega.{arith}
 use lib.ListN.{length, take, drop, getD, take-append-drop, drop-of-length-le, length-take}
-use lib.Seq.{length-take-le, drop-length}
+use lib.Seq.{length-take-le}
 use lib.Dec.{eqb}
 use Rattle.base.specs.Choice.{pick}
-use Rattle.places.specs.Sizes.{outputSize, frameSize, mostResults}
+use Rattle.places.specs.Sizes.{mostResults}
 use Rattle.queues.specs.Blocks.{Valued}
-use Rattle.queues.specs.Queue.{newest, pushed}
+use Rattle.queues.specs.Queue.{newest}
 use Rattle.time.specs.declared.Micros.{Micros}
 use Rattle.wire.specs.Numbers.{cidAtt}
 use Rattle.wire.specs.Frame.{l2capFrame}
@@ -18,29 +18,29 @@ use Rattle.state.specs.Central.{Central}
 use Rattle.state.specs.declared.Queued.{Queued}
 use Rattle.state.specs.declared.Running.{Running}
 use Rattle.state.specs.declared.StepResult.{StepResult}
-use Rattle.fit.specs.Fit.{awaits, isRequest}
+use Rattle.fit.specs.Fit.{awaits}
 use Rattle.fit.specs.Steps.{mostMtu}
 use Rattle.turns.specs.World.{Held, Told, World, onHeld}
 use Rattle.turns.specs.Send.{send}
 use Rattle.turns.specs.Ready.{Ready}
 use Rattle.waiting.specs.Waiting.{takeStep}
-use Rattle.starts.specs.Start.{ends, start}
+use Rattle.starts.specs.Start.{start}
 use Rattle.keeps.specs.Sound.{Sound}
 use Rattle.script.specs.Script.{canGo, stepOnce}
 use Rattle.script.proofs.AdvanceLaws.{GoesOn, goes-on}
 use Rattle.frames.specs.Payload.{payload}
 use Rattle.rules.specs.Channel.{onChannel}
-use Rattle.trails.specs.Trail.{News, link-came, link-went, att-heard, Pass, pass, final, met, parted, cameOn}
+use Rattle.trails.specs.Trail.{link-came, link-went, att-heard, Pass, pass, met, parted, cameOn}
 use Rattle.trails.specs.Log.{keptResults, upTo, newer, gave}
-use Rattle.trails.proofs.Hops.{Sizes, Still, Open, Hop, ended, began, meets, parts, still, acted}
-use Rattle.wires.specs.Wire.{Sent, sentIn, asSent, written, mtuOf}
+use Rattle.trails.proofs.Hops.{Still, Hop, ended, began, meets, parts, still, acted}
+use Rattle.wires.specs.Wire.{sentIn, asSent, written, mtuOf}
 use Rattle.wires.proofs.Bytes.{sent-frame, sent-written}
 use Rattle.books.proofs.Numbered.{gave-none}
 use Rattle.books.proofs.Gives.{Gives, nothing, one, Whole, kept-values}
 use Rattle.books.proofs.Starts.{gives-ends, gives-start}
 use Rattle.books.proofs.Channels.{gives-channel}
-use Rattle.books.proofs.Books.{Books, After, kept-take, whole-take, whole}
-use Rattle.asks.specs.Events.{Event, came, asked, result, asksFor, askedIn, newsOf, resultsOf, eventsIn, Calm, Awaited}
+use Rattle.books.proofs.Books.{Books, kept-take, whole-take, whole}
+use Rattle.asks.specs.Events.{Event, came, asked, result, askedIn, newsOf, resultsOf, eventsIn, Calm, Awaited}
 use Rattle.asks.proofs.Asks.{As, itself, Voice, hushed, speaks, Calmly, Asking, Asks, calm, none, asks, asks-finish}
 use Rattle.asks.proofs.Starts.{asks-start}
 use Rattle.asks.proofs.Channels.{asks-channel}

@@ -1,16 +1,16 @@
 -- What push_steps asks of what it calls, and what each of its returns asks.
 use Prim.Native.Nat.{ℕ, _+_, _≤_, _<_}
 use mathlib.Core.Path.{_≡_, refl, sym, ap, subst, _∙_}
-use mathlib.Core.Bool.{Bool, true, false, _&&_, false≢true}
+use mathlib.Core.Bool.{Bool, true, false}
 use mathlib.Core.List.{List, [], _∷_}
 use native.Mathlib.Omega.{arith}
-use lib.ListN.{length, take, length-take}
+use lib.ListN.{length, length-take}
 use lib.Dec.{eqb, leb, ltb}
 use borrow.Author.Tests.{eqb-true, eqb-false, leb-true, ltb-true}
 use Rattle.base.specs.Choice.{pick}
 use Rattle.queues.specs.Queue.{all}
 use Rattle.queues.specs.ScanLaws.{all-head, all-tail, all-cons}
-use Rattle.places.specs.Sizes.{mostSteps, storeSize, outputSize}
+use Rattle.places.specs.Sizes.{mostSteps}
 use Rattle.time.specs.declared.Micros.{Micros}
 use Rattle.time.specs.Clock.{latest}
 use Rattle.state.specs.Central.{Central, central}
@@ -31,7 +31,7 @@ use Rattle.keeps.specs.Sound.{Sound}
 use Rattle.keeps.proofs.Turns.{of-fit}
 use Rattle.keeps.proofs.Waiting.{Pushed, push-all-keeps}
 use Rattle.script.specs.Script.{advance}
-use Rattle.calls.specs.Outcome.{Outcome, outcome, begins, done, refused}
+use Rattle.calls.specs.Outcome.{outcome, begins, done, refused}
 use Rattle.calls.specs.declared.Answer.{Answer}
 use Rattle.calls.proofs.BeginLaws.{begins-sound}
 use Rattle.calls.proofs.GateLaws.{goes-through, is-stopped}

@@ -2,9 +2,7 @@
 use Prim.Native.Nat.{ℕ, _≤_}
 use mathlib.Core.Path.{_≡_, sym, _∙_}
 use mathlib.Core.Bool.{Bool, true, false, not}
-use lib.Dec.{eqb}
 use borrow.Author.Tests.{not-true, not-false, ne-eqb, eq-eqb}
-use Rattle.base.specs.Choice.{pick}
 use Rattle.places.specs.Sizes.{mostSteps}
 use Rattle.time.specs.declared.Micros.{Micros}
 use Rattle.state.specs.Central.{Central}

@@ -1,25 +1,23 @@
 -- The loop that lets a batch wait, step by step.
 use Prim.Native.Nat.{ℕ, _+_, _-_, _≤_, _<_}
 use mathlib.Core.Path.{_≡_, refl, sym, ap, _∙_}
-use mathlib.Core.Bool.{Bool, true, false, _&&_}
-use mathlib.Core.List.{List, [], _∷_}
+use mathlib.Core.Bool.{Bool, true, false}
+use mathlib.Core.List.{List, _∷_}
 use native.Mathlib.Omega.{arith}
 use lib.ListN.{length, take, drop, getD}
 use lib.Dec.{leb, ltb}
 use borrow.Author.Tests.{leb-true}
 use Rattle.base.specs.Choice.{pick}
-use Rattle.base.specs.Splice.{splice}
 use Rattle.base.proofs.SpliceLaws.{length-splice}
 use Rattle.queues.specs.Queue.{all}
 use Rattle.queues.specs.ScanLaws.{rest-cons, rest-nil, all-head, all-tail}
 use Rattle.places.specs.Sizes.{mostSteps, valueSize, waitingAt}
-use Rattle.state.specs.Central.{Central, withQueue, withCounters}
 use Rattle.fit.specs.Steps.{implies, carries, mtuNamed, mostMtu, stepFits}
 use Rattle.fit.specs.FitLaws.{both}
 use Rattle.turns.specs.World.{Held}
 use Rattle.waiting.specs.declared.Placed.{Placed}
-use Rattle.waiting.specs.Batch.{valueLen, queued}
-use Rattle.waiting.specs.Waiting.{live, queueing, refusing, pushOne, pushAll}
+use Rattle.waiting.specs.Batch.{valueLen}
+use Rattle.waiting.specs.Waiting.{pushOne, pushAll}
 use Rattle.batch.specs.Batch.{placedFits}
 use Rattle.batches.proofs.BatchLaws.{noPlaced}
 

@@ -1,6 +1,5 @@
 -- push_steps: a batch of steps waits, and the script goes on (01, refusals 4 and 5).
 use Prim.Native.Nat.{ℕ}
-use mathlib.Core.Bool.{true, false}
 use mathlib.Core.List.{List}
 use lib.ListN.{length}
 use lib.Dec.{eqb}
@@ -12,7 +11,7 @@ use Rattle.fit.specs.Refusals.{accepted, badBatch, counterFull}
 use Rattle.waiting.specs.declared.Batch.{Batch}
 use Rattle.waiting.specs.Batch.{steps}
 use Rattle.waiting.specs.Waiting.{pushAll}
-use Rattle.turns.specs.World.{World, onHeld}
+use Rattle.turns.specs.World.{onHeld}
 pub use Rattle.batches.specs.Batches.{placedFits, refusedBelow}
 unfoldable pub use Rattle.batches.specs.Batches.{batchFits, countersFit}
 use Rattle.script.specs.Script.{advance}

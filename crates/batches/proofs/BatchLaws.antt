@@ -1,7 +1,7 @@
 -- What each return of the tests of a batch asks.
 use Prim.Native.Nat.{ℕ, _-_, _≤_, _<_}
 use mathlib.Core.Path.{_≡_}
-use mathlib.Core.Bool.{Bool, true, false, not, _&&_}
+use mathlib.Core.Bool.{Bool, true, false, not}
 use lib.ListN.{take}
 use lib.Dec.{leb}
 use borrow.Author.Tests.{not-true, not-false, lt-leb, le-leb, leb-true}

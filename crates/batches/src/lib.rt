@@ -24,7 +24,7 @@ fn placed_fits(p: Placed, size: usize) -> bool
     if !fit::step_fits(step, len) {
         return false;
     }
-    if !fit::carries(step) {
+    if !kinds::carries(step) {
         return true;
     }
     if size < len {

@@ -1,39 +1,36 @@
 -- Over every sequence of calls from a fresh state, with any store, refused calls included: steps and results are accounted for.
-use Prim.Native.Nat.{ℕ, zero, suc, min, _+_, _-_, _*_, _≤_, _<_}
+use Prim.Native.Nat.{ℕ, zero, suc, _+_, _-_, _≤_, _<_}
 use mathlib.Core.Path.{_≡_, refl, sym, ap, _∙_, subst}
-use mathlib.Core.Bool.{Bool, true, false, false≢true, not, _&&_}
+use mathlib.Core.Bool.{Bool, true, false, false≢true}
 use mathlib.Core.List.{List, [], _∷_, _++_, append-nil, append-assoc}
 use native.Mathlib.Omega.{arith}
-use lib.ListN.{length, take, drop, replicate, length-append, length-drop, length-replicate}
+use lib.ListN.{length, take, drop, length-append}
 use lib.Seq.{length-take-le, drop-append-le}
 use lib.Dec.{eqb, ltb, leb}
 use borrow.Author.Tests.{eqb-true, ltb-true, ltb-false, leb-true}
 use Rattle.base.specs.Choice.{pick}
 use Rattle.base.specs.Splice.{splice}
-use Rattle.base.proofs.SpliceLaws.{length-splice}
-use Rattle.places.specs.Sizes.{storeSize, mostSteps, mostResults, mostKeys, resultSize, resultAt, valueSize, waitingAt}
-use Rattle.queues.specs.Queue.{newest, onto, all}
+use Rattle.places.specs.Sizes.{mostSteps, mostResults, resultSize, resultAt, valueSize, waitingAt}
+use Rattle.queues.specs.Queue.{newest, all}
 use Rattle.queues.specs.QueueLaws.{take-onto, length-onto}
 use Rattle.queues.specs.ScanLaws.{all-head, all-tail}
 use Rattle.queues.specs.Blocks.{Valued, valued, bytes}
-use Rattle.time.specs.declared.Micros.{Micros}
-use Rattle.state.specs.Central.{Central, withQueue, withCounters}
+use Rattle.state.specs.Central.{withQueue, withCounters}
 use Rattle.state.specs.Fresh.{freshCentral}
 use Rattle.state.specs.declared.Queue.{Queue}
 use Rattle.state.specs.declared.Running.{Running}
 use Rattle.state.specs.declared.Keys.{Keys}
 use Rattle.state.specs.declared.Reports.{Reports}
-use Rattle.reports.specs.ReportLaws as reports
+use Rattle.reports.specs.Whole as reports
 use Rattle.fit.specs.Refusals.{longFrame}
 use Rattle.state.specs.declared.Queued.{Queued}
 use Rattle.state.specs.declared.StepResult.{StepResult}
 use Rattle.fit.specs.Steps.{implies, carries, stepFits}
 use Rattle.fit.specs.FitLaws.{both}
-use Rattle.turns.specs.World.{Held, World, onHeld, onState}
+use Rattle.turns.specs.World.{Held, onState}
 use Rattle.waiting.specs.declared.Placed.{Placed}
-use Rattle.waiting.specs.declared.Batch.{Batch}
 use Rattle.waiting.specs.Batch.{valueLen, queued, steps}
-use Rattle.waiting.specs.Waiting.{live, queueing, refusing, pushOne, pushAll}
+use Rattle.waiting.specs.Waiting.{waiting, queueing, refusing, pushOne, pushAll}
 use Rattle.keeps.proofs.Turns.{of-fit}
 use Rattle.calls.specs.Outcome.{Outcome, done}
 use Rattle.batch.specs.Batch.{placedFits}
@@ -41,14 +38,12 @@ use Rattle.batch.proofs.CallLaws.{passed-batch}
 use Rattle.fragments.specs.Fragment as link
 use Rattle.trails.specs.Calls.{Call, batch, timer, connected, disconnected, advertising, scanResponse, fragment, reads, does, left, run, gateOf, done?}
 use Rattle.trails.specs.Trail.{begins, goes, final}
-use Rattle.trails.specs.Log.{keptResults, givenIn, givenBy, log, queuedAll, roomFor, takesIn, taken}
+use Rattle.trails.specs.Log.{givenIn, givenBy, log, queuedAll, roomFor, takesIn, taken}
 use Rattle.trails.proofs.Ends.{refusedOf, does-law}
-use Rattle.trails.proofs.Hops.{Sizes}
 use Rattle.trails.proofs.Goes.{good}
 use Rattle.books.specs.InLine.{runningOne, inLine}
-use Rattle.books.proofs.Numbered.{Numbered}
 use Rattle.books.proofs.Gives.{Whole, kept-values}
-use Rattle.books.proofs.Books.{Books, After, after-hops, bytes-past}
+use Rattle.books.proofs.Books.{Books, after-hops, bytes-past}
 
 -- ---- a batch goes in
 
@@ -69,7 +64,7 @@ short-value size p e = go (carries (p .step)) refl
 
 -- what waits after more, and what stays
 pub record Put (h g : Held) (new : List Queued) : Type 0 where
-  pub line : live (g .state .queue) ≡ live (h .state .queue) ++ new
+  pub line : waiting (g .state .queue) ≡ waiting (h .state .queue) ++ new
   pub count : g .state .queue .count ≡ h .state .queue .count + length new
   pub cells : length (g .state .queue .kept) ≡ mostSteps
   pub few : g .state .queue .count ≤ mostSteps
@@ -93,10 +88,10 @@ put-one h values p m cells few = go (ltb n mostSteps) refl
     n = q .count
 
     l : List Queued
-    l = live q ++ (queued p ∷ [])
+    l = waiting q ++ (queued p ∷ [])
 
     long : length l ≡ n + 1
-    long = length-append (live q) (queued p ∷ []) ∙ omega (arith, length-take-le n (q .kept) (omega (arith, few, cells)))
+    long = length-append (waiting q) (queued p ∷ []) ∙ omega (arith, length-take-le n (q .kept) (omega (arith, few, cells)))
 
     yes : Held
     yes = record { state = withQueue (h .state) (queueing q l); store = splice (h .store) (waitingAt n) values (p .place) (valueLen p) }
@@ -122,7 +117,7 @@ put-one h values p m cells few = go (ltb n mostSteps) refl
         }
     go false e =
         record {
-          line = sym (append-nil (live q));
+          line = sym (append-nil (waiting q));
           count = omega arith;
           cells = cells;
           few = few;
@@ -138,7 +133,7 @@ put-one h values p m cells few = go (ltb n mostSteps) refl
 put-then : (h g i : Held) (a b : List Queued) → Put h g a → Put g i b → Put h i (a ++ b)
 put-then h g i a b x y =
     record {
-      line = y .line ∙ ap (λ (t : List Queued). t ++ b) (x .line) ∙ append-assoc (live (h .state .queue)) a b;
+      line = y .line ∙ ap (λ (t : List Queued). t ++ b) (x .line) ∙ append-assoc (waiting (h .state .queue)) a b;
       count = omega (arith, x .count, y .count, length-append a b);
       cells = y .cells;
       few = y .few;
@@ -157,7 +152,7 @@ unfolding pushAll
 put-all size h values [] f cells few =
     let e : queuedAll (take (mostSteps - h .state .queue .count) []) ≡ [] = nil (mostSteps - h .state .queue .count) in
     subst (λ (t : List Queued). Put h h t) (sym e)
-    (record { line = sym (append-nil (live (h .state .queue))); count = omega arith; cells = cells; few = few; running = refl; index = refl; bearer = refl; results = refl; reports = refl; keys = refl; values = λ k p n m. refl })
+    (record { line = sym (append-nil (waiting (h .state .queue))); count = omega arith; cells = cells; few = few; running = refl; index = refl; bearer = refl; results = refl; reports = refl; keys = refl; values = λ k p n m. refl })
   where
     nil : (m : ℕ) → queuedAll (take m []) ≡ []
     nil zero = refl
@@ -207,9 +202,9 @@ books-put l q new h g w b p =
   where
     line : inLine (g .state) ≡ drop (length l) (q ++ new)
     line =
-        ap (λ (r : Running). runningOne r ++ live (g .state .queue)) (p .running)
+        ap (λ (r : Running). runningOne r ++ waiting (g .state .queue)) (p .running)
         ∙ ap (λ (t : List Queued). runningOne (h .state .running) ++ t) (p .line)
-        ∙ sym (append-assoc (runningOne (h .state .running)) (live (h .state .queue)) new)
+        ∙ sym (append-assoc (runningOne (h .state .running)) (waiting (h .state .queue)) new)
         ∙ ap (λ (t : List Queued). t ++ new) (b .line)
         ∙ sym (drop-append-le (length l) q new (b .fewer))
 

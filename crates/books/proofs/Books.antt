@@ -1,44 +1,33 @@
 -- The books of a sequence of calls: what was given, what was taken in, and what is still in line.
-use Prim.Native.Nat.{ℕ, zero, suc, min, _+_, _-_, _*_, _≤_, _<_}
+use Prim.Native.Nat.{ℕ, zero, suc, _+_, _-_, _*_, _≤_, _<_}
 use mathlib.Core.Path.{_≡_, refl, sym, ap, _∙_, subst}
-use mathlib.Core.Bool.{Bool, true, false, false≢true, not, _&&_}
+use mathlib.Core.Bool.{Bool, true, false, false≢true}
 use mathlib.Core.List.{List, [], _∷_, _++_, append-nil, append-assoc}
 use native.Mathlib.Omega.{arith}
-use lib.ListN.{length, take, drop, getD, length-append, length-drop, length-take}
-use lib.Seq.{drop-drop, length-take-le, drop-append-le}
-use lib.Dec.{eqb, ltb, leb}
-use borrow.Author.Tests.{ltb-true, ltb-false, leb-true}
+use lib.ListN.{length, take, drop, getD, length-append, length-drop}
+use lib.Seq.{drop-drop, length-take-le}
 use Rattle.base.specs.Choice.{pick}
 use Rattle.base.specs.Splice.{splice}
-use Rattle.base.proofs.SpliceLaws.{length-splice, length-moved, moved-down}
-use Rattle.places.specs.Sizes.{storeSize, mostSteps, mostResults, mostKeys, resultSize, resultAt, valueSize, runningAt, waitingAt}
-use Rattle.queues.specs.Queue.{newest, pushed, onto, all}
+use Rattle.base.proofs.SpliceLaws.{length-moved, moved-down}
+use Rattle.places.specs.Sizes.{mostSteps, mostResults, resultSize, resultAt, valueSize, runningAt, waitingAt}
+use Rattle.queues.specs.Queue.{newest, pushed, onto}
 use Rattle.queues.specs.QueueLaws.{pushed-newest, take-onto, length-onto}
-use Rattle.queues.specs.ScanLaws.{all-head, all-tail}
 use Rattle.queues.specs.Blocks.{Valued, bytes}
 use Rattle.queues.specs.BlockLaws.{drop-past}
 use Rattle.time.specs.declared.Micros.{Micros}
-use Rattle.time.specs.Clock.{latest}
-use Rattle.state.specs.Central.{Central}
 use Rattle.state.specs.Fresh.{noQueued}
 use Rattle.state.specs.declared.Queue.{Queue}
 use Rattle.state.specs.declared.Keys.{Keys}
 use Rattle.state.specs.declared.Reports.{Reports}
-use Rattle.reports.specs.ReportLaws as reports
+use Rattle.reports.specs.Whole as reports
 use Rattle.state.specs.declared.Queued.{Queued}
-use Rattle.state.specs.declared.Results.{Results}
 use Rattle.state.specs.declared.Running.{Running}
 use Rattle.state.specs.declared.StepResult.{StepResult}
-use Rattle.fit.specs.Steps.{implies, carries, stepFits}
-use Rattle.fit.specs.FitLaws.{both}
-use Rattle.turns.specs.World.{Held, World, onHeld, onState}
-use Rattle.waiting.specs.declared.Placed.{Placed}
-use Rattle.waiting.specs.Batch.{valueLen, queued}
-use Rattle.waiting.specs.Waiting.{live, queueing, pushOne, pushAll, takeStep}
+use Rattle.turns.specs.World.{Held, World, onHeld}
+use Rattle.waiting.specs.Waiting.{waiting, queueing, takeStep}
 use Rattle.starts.specs.Start.{start}
-use Rattle.keeps.specs.Nearly.{Nearly}
 use Rattle.keeps.specs.Sound.{Sound}
-use Rattle.keeps.proofs.Turns.{Stays, stays-bearer, stays-absent}
+use Rattle.keeps.proofs.Turns.{stays-bearer, stays-absent}
 use Rattle.keeps.proofs.Starts.{stays-ends}
 use Rattle.script.specs.Script.{canGo, stepOnce}
 use Rattle.script.proofs.AdvanceLaws.{GoesOn, goes-on, stepped}
@@ -46,11 +35,11 @@ use Rattle.calls.proofs.BeginLaws.{sound-stays}
 use Rattle.events.specs.Events.{linked, unlinked}
 use Rattle.rules.specs.Channel.{onChannel}
 use Rattle.trails.specs.Trail.{Pass, final, met, parted}
-use Rattle.trails.specs.Log.{keptResults, upTo, newer, gave, givenIn, queuedAll}
-use Rattle.trails.proofs.Hops.{Sizes, Still, Open, Hop, ended, began, meets, parts, still, acted, Hops, none, more}
-use Rattle.books.specs.InLine.{runningOne, inLine}
+use Rattle.trails.specs.Log.{keptResults, upTo, newer, gave, givenIn}
+use Rattle.trails.proofs.Hops.{Sizes, Still, Hop, ended, began, meets, parts, still, acted, Hops, none, more}
+use Rattle.books.specs.InLine.{inLine}
 use Rattle.books.proofs.Numbered.{Numbered, numbered-snoc, gave-none, gave-one}
-use Rattle.books.proofs.Gives.{Whole, Same, Goes-on, Ends, Gives, nothing, one, Apart, apart, apart-state, kept-values}
+use Rattle.books.proofs.Gives.{Whole, Same, Ends, Gives, nothing, one, apart-state, kept-values}
 use Rattle.books.proofs.Starts.{gives-ends, quiet, gives-start}
 use Rattle.books.proofs.Channels.{gives-channel}
 
@@ -86,7 +75,7 @@ record Rests (h g : Held) : Type 0 where
   sizes : Sizes (g .state)
 
 same-line : (a : Bool) (r : Running) (q : Queue) (b : Bool) (s : Running) (p : Queue) → b ≡ a → s .step ≡ r .step → s .len ≡ r .len → p ≡ q
-    → pick b (record { step = s .step; len = s .len } ∷ []) [] ++ live p ≡ pick a (record { step = r .step; len = r .len } ∷ []) [] ++ live q
+    → pick b (record { step = s .step; len = s .len } ∷ []) [] ++ waiting p ≡ pick a (record { step = r .step; len = r .len } ∷ []) [] ++ waiting q
 same-line a r q b s p e f g i = rw (e, f, g, i)
 
 books-rest : (l : List (Valued StepResult)) (q : List Queued) (h g : Held) → Books l q h → Rests h g → Books (l ++ gave h g) q g
@@ -153,17 +142,17 @@ books-one l q h g b e = subst (λ (t : List (Valued StepResult)). Books (l ++ t)
     more-given : length (l ++ (x ∷ [])) ≡ length l + 1
     more-given = length-append l (x ∷ [])
 
-    front : record { step = h .state .running .step; len = h .state .running .len } ∷ live (h .state .queue) ≡ drop (length l) q
+    front : record { step = h .state .running .step; len = h .state .running .len } ∷ waiting (h .state .queue) ≡ drop (length l) q
     front =
-        sym (ap (λ (a : Bool). pick a (record { step = h .state .running .step; len = h .state .running .len } ∷ []) [] ++ live (h .state .queue)) (e .was)) ∙ b .line
+        sym (ap (λ (a : Bool). pick a (record { step = h .state .running .step; len = h .state .running .len } ∷ []) [] ++ waiting (h .state .queue)) (e .was)) ∙ b .line
 
-    rest : (live (h .state .queue) ≡ drop (length l + 1) q) × (length l + 1 ≤ length q)
-    rest = one-less (record { step = h .state .running .step; len = h .state .running .len }) (live (h .state .queue)) q (length l) front
+    rest : (waiting (h .state .queue) ≡ drop (length l + 1) q) × (length l + 1 ≤ length q)
+    rest = one-less (record { step = h .state .running .step; len = h .state .running .len }) (waiting (h .state .queue)) q (length l) front
 
     line : inLine (g .state) ≡ drop (length (l ++ (x ∷ []))) q
     line =
-        ap (λ (a : Bool). pick a (record { step = g .state .running .step; len = g .state .running .len } ∷ []) [] ++ live (g .state .queue)) (e .is)
-        ∙ ap (λ (p : Queue). live p) (e .same .queue)
+        ap (λ (a : Bool). pick a (record { step = g .state .running .step; len = g .state .running .len } ∷ []) [] ++ waiting (g .state .queue)) (e .is)
+        ∙ ap (λ (p : Queue). waiting p) (e .same .queue)
         ∙ rest .0
         ∙ ap (λ (n : ℕ). drop n q) (sym more-given)
 
@@ -237,19 +226,19 @@ books-take l q h w few o b =
     p = h .state .queue
 
     rest : List Queued
-    rest = drop 1 (live p)
+    rest = drop 1 (waiting p)
 
-    short : length (live p) ≡ p .count
+    short : length (waiting p) ≡ p .count
     short = length-take-le (p .count) (p .kept) (omega (arith, few, b .sizes .queue))
 
     cells : length (onto (p .kept) rest) ≡ mostSteps
-    cells = length-onto (p .kept) rest (omega (arith, length-drop 1 (live p), short, few, b .sizes .queue)) ∙ b .sizes .queue
+    cells = length-onto (p .kept) rest (omega (arith, length-drop 1 (waiting p), short, few, b .sizes .queue)) ∙ b .sizes .queue
 
-    waits : live p ≡ drop (length l) q
+    waits : waiting p ≡ drop (length l) q
     waits =
-        sym (ap (λ (a : Bool). pick a (record { step = h .state .running .step; len = h .state .running .len } ∷ []) [] ++ live p) (o .idle)) ∙ b .line
+        sym (ap (λ (a : Bool). pick a (record { step = h .state .running .step; len = h .state .running .len } ∷ []) [] ++ waiting p) (o .idle)) ∙ b .line
 
-    line : getD (p .kept) 0 noQueued ∷ live (queueing p rest) ≡ drop (length l) q
+    line : getD (p .kept) 0 noQueued ∷ waiting (queueing p rest) ≡ drop (length l) q
     line =
         ap (λ (t : List Queued). getD (p .kept) 0 noQueued ∷ t) (take-onto (p .kept) rest)
         ∙ sym (live-first (p .kept) (p .count) (o .some) (omega (arith, few, b .sizes .queue)))

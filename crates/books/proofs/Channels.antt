@@ -1,18 +1,16 @@
 -- What a frame that is read gives: nothing, or the running step's result.
-use Prim.Native.Nat.{ℕ, zero, suc, _+_, _-_, _*_, _≤_, _<_, max, min}
-use mathlib.Core.Path.{_≡_, refl, sym, ap, _∙_, subst}
-use mathlib.Core.Bool.{Bool, true, false, _&&_, _||_}
-use mathlib.Core.List.{List, [], _∷_, _++_}
+use Prim.Native.Nat.{ℕ, _+_, _-_, _≤_}
+use mathlib.Core.Path.{_≡_, refl}
+use mathlib.Core.Bool.{Bool, true, false, _&&_}
+use mathlib.Core.List.{List, [], _∷_}
 use native.Mathlib.Omega.{arith}
-use lib.ListN.{length, getD}
+use lib.ListN.{getD}
 use lib.Dec.{eqb, ltb, leb}
 use Rattle.base.specs.Choice.{pick, among}
 use Rattle.base.specs.Bytes.{leAt}
-use Rattle.places.specs.Sizes.{storeSize, heldAt, mostResults, resultSize, resultAt}
-use Rattle.queues.specs.Blocks.{bytes}
+use Rattle.places.specs.Sizes.{resultAt}
 use Rattle.queues.specs.BlockLaws.{length-stored, stored-below}
 use Rattle.time.specs.declared.Micros.{Micros}
-use Rattle.uuid.specs.declared.Uuid.{Uuid}
 use Rattle.wire.specs.Numbers.{cidAtt, cidSignaling, cidSmp}
 use Rattle.att_pdu.specs.Numbers.{opErrorRsp, opExchangeMtuReq, opHandleValueNtf, opHandleValueInd, opReadRsp, opWriteRsp, errInvalidHandle, errRequestNotSupported, errAttributeNotFound}
 use Rattle.services.specs.Service as service
@@ -28,10 +26,8 @@ use Rattle.waits.specs.Kept.{part}
 use Rattle.state.specs.Central.{Central, withServices, withCharacteristics}
 use Rattle.state.specs.declared.StepStatus.{StepStatus}
 use Rattle.state.specs.declared.StepStatus.the-variants.{Ok, NotFound, AttError, TableFull}
-use Rattle.turns.specs.World.{Held, World, onHeld, onTold, onState}
-use Rattle.turns.specs.Finish.{finish}
+use Rattle.turns.specs.World.{Held, World, onTold, onState}
 use Rattle.discovery.specs.Discovery.{lastHandle, discoverServices, discoverCharacteristics, discoverDescriptors}
-use Rattle.starts.specs.Wait.{checkWait}
 use Rattle.frames.specs.Payload.{payloadAt, payloadSize, payload, withMtu}
 use Rattle.replies.specs.Replies.{onSignaling, onSmp, refuse, exchange, keepOne, notice}
 use Rattle.questions.specs.declared.Goal.{Goal}
@@ -41,7 +37,7 @@ use Rattle.questions.specs.declared.Asked.the-variants as asked-variants
 use Rattle.rules.specs.Responses.{askedBy, over, become, serviceOf, entriesOf, walkInto, servicesDone, servicesFound, servicesHeard, characteristicsFound, characteristicsHeard, afterRange, goOn, widthOf, descriptorsFound, descriptorsHeard, rangeDone, characteristicsDone, absent, smallerMtu, valueRead, present, failed, counts, unasked, taken, onResponse}
 use Rattle.rules.specs.Att.{searches, accesses, silent, otherRequest, byOpcode, onAtt}
 use Rattle.rules.specs.Channel.{onChannel}
-use Rattle.books.proofs.Gives.{Whole, Goes-on, Gives, nothing, one, gives-none, gives-then, Apart, apart, apart-state, gives-finish, whole-same}
+use Rattle.books.proofs.Gives.{Whole, Gives, gives-none, gives-then, Apart, apart, apart-state, gives-finish, whole-same}
 use Rattle.books.proofs.Starts.{gives-ends, quiet, gives-services, gives-descriptors, gives-characteristics, gives-check}
 
 -- ---- what is no response

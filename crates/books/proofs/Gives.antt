@@ -1,25 +1,23 @@
 -- What a hop gives: no result, or the running step's.
-use Prim.Native.Nat.{ℕ, zero, suc, _+_, _-_, _*_, _≤_, _<_}
+use Prim.Native.Nat.{ℕ, _+_, _-_, _≤_, _<_}
 use mathlib.Core.Path.{_≡_, refl, sym, ap, _∙_, subst}
 use mathlib.Core.Bool.{Bool, true, false}
-use mathlib.Core.List.{List, [], _∷_, _++_}
+use mathlib.Core.List.{List}
 use native.Mathlib.Omega.{arith}
-use lib.ListN.{length, take, drop}
+use lib.ListN.{length}
 use lib.Seq.{length-take-le}
 use Rattle.base.specs.Choice.{pick}
-use Rattle.places.specs.Sizes.{storeSize, mostResults, resultSize, resultAt, heldAt}
-use Rattle.queues.specs.Queue.{pushed, onto}
-use Rattle.queues.specs.QueueLaws.{take-onto, length-onto, length-pushed, pushed-within}
+use Rattle.places.specs.Sizes.{storeSize, mostResults, resultSize, resultAt}
+use Rattle.queues.specs.Queue.{pushed}
+use Rattle.queues.specs.QueueLaws.{take-onto, length-onto, pushed-within}
 use Rattle.queues.specs.Blocks.{Valued, valued, bytes, stored}
-use Rattle.queues.specs.BlockLaws.{valued-stored, valued-same, length-stored}
+use Rattle.queues.specs.BlockLaws.{valued-stored, valued-same}
 use Rattle.time.specs.declared.Micros.{Micros}
 use Rattle.state.specs.Central.{Central}
-use Rattle.state.specs.declared.Queue.{Queue}
 use Rattle.state.specs.declared.Results.{Results}
-use Rattle.state.specs.declared.Running.{Running}
 use Rattle.state.specs.declared.StepResult.{StepResult}
 use Rattle.state.specs.declared.StepStatus.{StepStatus}
-use Rattle.turns.specs.World.{Held, World, onHeld, onState}
+use Rattle.turns.specs.World.{Held, onState}
 use Rattle.turns.specs.Finish.{resultPart, kept, pushedResult, ended, finish}
 use Rattle.fit.specs.Fit.{resultsFit}
 use Rattle.keeps.specs.Nearly.{Nearly}

@@ -1,15 +1,13 @@
 -- What a step that begins gives: nothing, or its own result.
-use Prim.Native.Nat.{ℕ, zero, suc, _+_, _-_, _*_, _≤_, _<_, max}
-use mathlib.Core.Path.{_≡_, refl, sym, ap, _∙_, subst}
+use Prim.Native.Nat.{ℕ, _+_, _-_}
+use mathlib.Core.Path.{refl}
 use mathlib.Core.Bool.{Bool, true, false, _||_}
-use mathlib.Core.List.{List, [], _∷_, _++_}
+use mathlib.Core.List.{List}
 use native.Mathlib.Omega.{arith}
-use lib.ListN.{length}
 use lib.Dec.{eqb, ltb}
 use Rattle.base.specs.Choice.{pick}
-use Rattle.places.specs.Sizes.{storeSize, heldAt, runningAt}
+use Rattle.places.specs.Sizes.{heldAt, runningAt}
 use Rattle.time.specs.declared.Micros.{Micros}
-use Rattle.time.specs.declared.Millis.{Millis}
 use Rattle.services.specs.declared.Service.{Service}
 use Rattle.services.specs.declared.Which as service-which
 use Rattle.services.specs.declared.Which.the-variants as service-variants
@@ -39,8 +37,8 @@ use Rattle.starts.specs.declared.Alone.the-variants as alone
 use Rattle.starts.specs.declared.Awaited.{Awaited}
 use Rattle.starts.specs.declared.Awaited.the-variants as awaited-variants
 use Rattle.starts.specs.Wait.{waitPasses, passed, checkOne, awaited, checkFor, checkWait}
-use Rattle.starts.specs.Start.{ends, waitsFor, unlinkedStep, startAlone, startUnlinked, forgotten, discoverIn, subscribeAt, subscribe, commanded, write, read, terminated, asksTo, disconnect, named, startLinked, start}
-use Rattle.books.proofs.Gives.{Whole, Goes-on, Gives, nothing, one, gives-none, gives-then, Apart, apart, apart-state, gives-finish, whole-same}
+use Rattle.starts.specs.Start.{ends, waitsFor, unlinkedStep, startAlone, startUnlinked, forgotten, discoverIn, subscribeAt, subscribe, commanded, write, read, terminated, asksTo, disconnect, startLinked, start}
+use Rattle.books.proofs.Gives.{Whole, Gives, nothing, gives-none, gives-then, Apart, apart, apart-state, gives-finish, whole-same}
 
 -- the step ends with no value
 pub gives-ends : (h : Held) (at : Micros) (st : StepStatus) → Whole h → Gives h (ends h at st)

@@ -8,14 +8,14 @@ use borrow.Author.Tests.{eq-eqb, ne-eqb}
 use Rattle.base.specs.Choice.{pick}
 use Rattle.time.specs.declared.Micros.{Micros}
 use Rattle.time.specs.Clock.{latest}
-use Rattle.state.specs.Central.{Central, central}
+use Rattle.state.specs.Central.{central}
 use Rattle.state.specs.declared.State.{State}
 use Rattle.state.specs.declared.Turn.{Turn}
 use Rattle.fit.specs.Gate.{gate, gateQuiet}
 use Rattle.fit.specs.Refusals.{accepted}
 use Rattle.turns.specs.World.{Held, World, held, world}
 use Rattle.keeps.specs.Sound.{Sound, Whole}
-use Rattle.calls.specs.Outcome.{Outcome, outcome, begins, done, refused, Quiet, quiet, quietly, quietlyRefused}
+use Rattle.calls.specs.Outcome.{outcome, begins, done, refused, quiet, quietly, quietlyRefused}
 use Rattle.calls.specs.declared.Answer.{Answer}
 use Rattle.calls.specs.declared.QuietAnswer.{QuietAnswer}
 use Rattle.calls.proofs.BeginLaws.{may-begin, may-begin-quietly}

@@ -1,8 +1,6 @@
 -- All that a call gives and changes.
 use Prim.Native.Nat.{ℕ}
 use mathlib.Core.List.{List}
-use lib.Dec.{eqb}
-use Rattle.base.specs.Choice.{pick}
 use Rattle.state.specs.Central.{Central, central}
 use Rattle.state.specs.declared.Sent.{Sent}
 use Rattle.state.specs.declared.LinkRequest.the-variants.{Nothing}

@@ -8,7 +8,7 @@ use native.Mathlib.Omega.{arith}
 use lib.ListN.{length, take, drop, getD, set, length-append, length-set, take-append-drop, drop-of-length-le}
 use lib.Seq.{drop-cons, drop-drop, getD-take, getD-drop, length-take-le, take-take, take-suc-set, drop-set-lt, set-split, append-snoc}
 use borrow.Author.Tests.{lt-ltb, le-ltb, le-leb, lt-leb}
-use Rattle.entries.specs.Table.{onto}
+use Rattle.queues.specs.Queue.{onto}
 use Rattle.entries.proofs.TableLaws.{here, past, set-in}
 use Rattle.characteristics.specs.Characteristic.{known, Rising, upFrom, enter, with-one, zero-characteristic}
 use Rattle.characteristics.specs.Parts.{place, added}
@@ -78,7 +78,6 @@ module _ {A : Type 0} (a : List A) (n p : ℕ) (c : A) (h : n < length a) where
 
   pub shift-end : (b : List A) (carry : A) (i : ℕ) → Shift a n p c b carry i → n ≤ i
       → set b n carry ≡ onto a (take p (take n a) ++ c ∷ drop p (take n a))
-  unfolding onto
   shift-end b carry i s g =
       let e : i ≡ n = omega (arith, s .high) in
       let sz = s .size in
@@ -111,7 +110,7 @@ module _ (t : Characteristics) (c : Characteristic) (p : ℕ) (h : t .count ≤ 
       (rw (← e) (ap (λ (x : Characteristic). x .declaration) (getD-take (t .count) (t .kept) p zero-characteristic q) ∙ d))) in
       let l : length (set (known t) p c) ≡ t .count = length-set (known t) p c ∙ size in
       let k : length (set (known t) p c) ≤ 64 = omega arith in
-      rw (en, le-leb (length (set (known t) p c)) 64 k, l, ← set-in (t .kept) (t .count) p c (omega arith) q)
+      rw (set-in (t .kept) (t .count) p c (omega arith) q, en, le-leb (length (set (known t) p c)) 64 k, l)
 
   module _ (new : p < t .count → getD (t .kept) p zero-characteristic .declaration ≡ c .declaration → ⊥) where
     enters : enter c (known t) ≡ take p (known t) ++ c ∷ drop p (known t)

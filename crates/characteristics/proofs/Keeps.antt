@@ -38,4 +38,4 @@ module _ (t : Characteristics) (none : ℕ) (es : List (List ℕ)) where
         taken-most more declarationOf 64 (known t) none es (omega (arith, length-take-le (t .count) (t .kept) (omega arith)))
 
     pub taken-size : length (characteristicsTaken t none es .table .kept) ≡ 64
-    taken-size = length-onto (t .kept) _ (omega (arith, taken-count)) ∙ size
+    taken-size = length-onto (t .kept) (taken more declarationOf 64 (known t) none es .list) (omega (arith, taken-count)) ∙ size

@@ -12,7 +12,7 @@ use Rattle.uuid.specs.declared.Uuid.{Uuid}
 use Rattle.uuid.specs.declared.Read as read
 use Rattle.uuid.specs.declared.Read.the-variants as read-variants
 use Rattle.places.specs.Sizes.{mostCharacteristics}
-use Rattle.entries.specs.Table.{onto}
+use Rattle.queues.specs.Queue.{onto}
 use Rattle.entries.specs.First.{first}
 use Rattle.entries.specs.Taken.{Have, taken}
 use Rattle.characteristics.specs.declared.Cccd.the-variants.{Unknown}

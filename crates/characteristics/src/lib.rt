@@ -5,7 +5,7 @@ ghost use Prim.Native.Nat.{_+_, _≤_, _<_};
 ghost use lib.ListN.{length, take, drop};
 ghost use Rattle.places.specs.Sizes.{mostCharacteristics};
 ghost use Rattle.entries.specs.Cut.{entries, part};
-ghost use Rattle.entries.specs.Table.{onto};
+ghost use Rattle.queues.specs.Queue.{onto};
 ghost use Rattle.characteristics.specs.Characteristic.{known, noCharacteristics, cleared, Rising, rises, told, characteristicsTaken, characteristicWith};
 ghost use Rattle.characteristics.specs.Parts.{place, added};
 use places::MAX_CHARACTERISTICS;

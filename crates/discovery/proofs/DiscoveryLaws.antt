@@ -1,12 +1,11 @@
 -- What each return asks, from what the callees ensure.
-use Prim.Native.Nat.{ℕ, _+_, _≤_, _<_}
-use mathlib.Core.Path.{_≡_, refl, sym, ap, subst, _∙_}
-use mathlib.Core.Bool.{Bool, true, false, _||_}
+use Prim.Native.Nat.{ℕ, _≤_, _<_}
+use mathlib.Core.Path.{_≡_, sym, ap, subst, _∙_}
 use mathlib.Core.List.{List, []}
 use native.Mathlib.Omega.{arith}
 use lib.ListN.{length}
 use borrow.Author.Tests.{lt-ltb, le-ltb, eq-eqb, ne-eqb}
-use Rattle.places.specs.Sizes.{heldAt, mostResults}
+use Rattle.places.specs.Sizes.{heldAt}
 use Rattle.time.specs.declared.Micros.{Micros}
 use Rattle.att_pdu.specs.Pdu.{readByTypeReq, findInformationReq}
 use Rattle.services.specs.declared.Service.{Service}

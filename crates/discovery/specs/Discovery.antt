@@ -1,16 +1,17 @@
 -- Discovery's requests (Core Vol 3 Part G 4.4.1, 4.6.1, 4.7.1): services, then characteristics, then descriptors, each asked for from a handle on.
 use Prim.Native.Nat.{ℕ}
-use mathlib.Core.Bool.{Bool, _||_}
+use mathlib.Core.Bool.{_||_}
 use lib.Dec.{eqb, ltb}
 use Rattle.base.specs.Choice.{pick}
 use Rattle.places.specs.Sizes.{heldAt}
 use Rattle.time.specs.declared.Micros.{Micros}
 use Rattle.att_pdu.specs.Pdu.{readByGroupTypeReq, readByTypeReq, findInformationReq}
+pub use Rattle.services.specs.Service.{lastHandle}
 use Rattle.services.specs.declared.Service.{Service}
 use Rattle.descriptors.specs.declared.Range.{Range}
 use Rattle.descriptors.specs.declared.Range.the-variants.{Nothing, Is}
 use Rattle.descriptors.specs.Range.{descriptorRange}
-use Rattle.state.specs.Central.{Central, withRunning}
+use Rattle.state.specs.Central.{withRunning}
 use Rattle.state.specs.declared.Running.{Running}
 use Rattle.state.specs.declared.StepStatus.the-variants.{Ok}
 use Rattle.turns.specs.World.{World, onHeld, onState}
@@ -23,10 +24,6 @@ primaryService = 0x2800
 
 abbrev pub characteristicType : ℕ
 characteristicType = 0x2803
-
--- the last handle there is
-abbrev pub lastHandle : ℕ
-lastHandle = 0xFFFF
 
 -- what is asked for: 0 services, 1 characteristics, 2 descriptors; and from which handle on
 abbrev pub placed : Running → ℕ → ℕ → Running

@@ -8,7 +8,6 @@ ghost use Rattle.att_pdu.specs.Pdu.{findInformationReq, readByTypeReq};
 ghost use Rattle.state.specs.declared.StepStatus.the-variants.{Ok};
 ghost use Rattle.turns.specs.Finish.{finish};
 ghost use Rattle.turns.specs.Send.{Room, request};
-ghost use Rattle.state.specs.Central.{central};
 ghost use Rattle.turns.specs.World.{held, world, onHeld};
 ghost use Rattle.turns.specs.Ready.{Ready};
 ghost use Rattle.discovery.specs.Discovery.{characteristicType, placed, asking, discoverServices, discoverDescriptors, discoverCharacteristics};

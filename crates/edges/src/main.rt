@@ -1,10 +1,10 @@
 // Edges that are shown by running them, as 01 asks: a Write at the MTU, the scan keys at 128, the batch at 64, values that a wait
 // joins, a frame of 251 bytes. Prints what the calls gave.
-mod batches;
 mod held;
 mod joined;
 mod keys;
 mod known;
+mod sizes;
 mod writes;
 
 fn main() {
@@ -12,5 +12,5 @@ fn main() {
     joined::all();
     held::all();
     keys::all();
-    batches::all();
+    sizes::all();
 }

@@ -1,34 +1,25 @@
 -- Laws of a list at the front of an array, and of a walk along it.
 use Prim.Native.Nat.{ℕ, suc, _+_, _-_, _≤_, _<_}
-use mathlib.Core.Path.{_≡_, refl, sym, ap, _∙_}
+use mathlib.Core.Path.{_≡_, sym, ap, _∙_}
 use mathlib.Core.Bool.{Bool, true, false}
 use mathlib.Core.List.{List, [], _∷_, _++_, append-assoc}
 use native.Mathlib.Numerals.{add-one}
 use native.Mathlib.Omega.{arith}
-use lib.ListN.{length, take, drop, getD, set, length-append, length-drop, length-set, take-append-drop, drop-of-length-le}
-use lib.Seq.{length-take-le, take-at, drop-append-add, drop-drop, drop-cons, getD-take, set-split, set-append-left}
-use Rattle.entries.specs.Table.{onto}
+use lib.ListN.{length, take, drop, getD, set, length-append, length-set, take-append-drop, drop-of-length-le}
+use lib.Seq.{length-take-le, drop-append-add, drop-drop, drop-cons, getD-take, set-split, set-append-left}
+use Rattle.queues.specs.Queue.{onto}
+pub use Rattle.queues.specs.QueueLaws.{take-onto, length-onto}
 use Rattle.entries.specs.First.{first}
 
 -- ---- a list written onto an array
 
 module _ {A : Type 0} where
-  pub length-onto : (a l : List A) → length l ≤ length a → length (onto a l) ≡ length a
-  unfolding onto
-  length-onto a l h = simp (length-append, length-drop) (omega arith)
-
-  pub take-onto : (a l : List A) → take (length l) (onto a l) ≡ l
-  unfolding onto
-  take-onto a l = take-at l (drop (length l) a) (length l) refl
-
   -- an array is its own list written onto it
   pub onto-self : (a : List A) (n : ℕ) → n ≤ length a → onto a (take n a) ≡ a
-  unfolding onto
   onto-self a n h = ap (λ (k : ℕ). take n a ++ drop k a) (length-take-le n a h) ∙ take-append-drop n a
 
   -- the later, longer list covers the earlier
   pub onto-onto : (a l m : List A) → length l ≤ length m → onto (onto a l) m ≡ onto a m
-  unfolding onto
   onto-onto a l m h =
       let e : length m ≡ length l + (length m - length l) = omega arith in
       ap (λ (k : ℕ). m ++ drop k (l ++ drop (length l) a)) e
@@ -37,7 +28,6 @@ module _ {A : Type 0} where
 
   -- one place after the list is written
   pub set-onto : (a : List A) (n : ℕ) (x : A) → n < length a → set a n x ≡ onto a (take n a ++ (x ∷ []))
-  unfolding onto
   set-onto a n x h =
       let e : length (take n a ++ (x ∷ [])) ≡ suc n = simp length-append (omega (arith, length-take-le n a (omega arith))) in
       set-split a n x h ∙ sym (append-assoc (take n a) (x ∷ []) (drop (suc n) a))
@@ -45,7 +35,6 @@ module _ {A : Type 0} where
 
   -- one place of the list is replaced
   pub set-in : (a : List A) (n p : ℕ) (x : A) → n ≤ length a → p < n → set a p x ≡ onto a (set (take n a) p x)
-  unfolding onto
   set-in a n p x h g =
       let ln = length-take-le n a h in
       ap (λ (l : List A). set l p x) (sym (take-append-drop n a))

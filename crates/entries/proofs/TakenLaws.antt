@@ -9,7 +9,7 @@ use lib.Dec.{leb}
 use borrow.Author.Tests.{leb-true}
 use Rattle.base.specs.Choice.{pick}
 use Rattle.entries.specs.Cut.{entries, part}
-use Rattle.entries.specs.Table.{onto}
+use Rattle.queues.specs.Queue.{onto}
 use Rattle.entries.specs.Taken.{Have, have, taken}
 use Rattle.entries.proofs.CutLaws.{entry-here, entry-end}
 use Rattle.entries.proofs.TableLaws.{length-onto, take-onto, onto-self, onto-onto}

@@ -1,4 +1,3 @@
 pub mod Cut
-pub mod Table
 pub mod First
 pub mod Taken

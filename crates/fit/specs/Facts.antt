@@ -1,7 +1,7 @@
 -- What a fit state is known to have, as facts: what `omega` reads, and what other definitions ask.
 use Prim.Native.Nat.{ℕ, _+_, _≤_}
 use mathlib.Core.Path.{_≡_}
-use mathlib.Core.Bool.{Bool, true, false}
+use mathlib.Core.Bool.{true, false}
 use Rattle.places.specs.Sizes.{mostSteps, mostResults, mostReports, mostNotifications, mostServices, mostCharacteristics, mostKeys, frameSize, dataSize}
 use Rattle.waits.specs.Kept.{live, valuesFit}
 use Rattle.characteristics.specs.Characteristic.{known, rises}

@@ -2,7 +2,7 @@
 -- link's fields are free, and with no step active the running step's. A place of the store follows from a position (01, 'Sizes'; crate places):
 -- it is always inside its part and overlaps no other, so that of 01's second clause nothing is left to test.
 use Prim.Native.Nat.{ℕ}
-use mathlib.Core.Bool.{Bool, true, false, not, _&&_, _||_}
+use mathlib.Core.Bool.{Bool, not, _&&_, _||_}
 use mathlib.Core.List.{List}
 use lib.ListN.{take}
 use lib.Dec.{eqb, leb}
@@ -14,12 +14,11 @@ use Rattle.waits.specs.Kept.{live, valuesFit}
 use Rattle.characteristics.specs.Characteristic.{known, rises}
 use Rattle.att_pdu.specs.Numbers.{opExchangeMtuReq, opFindInformationReq, opReadByTypeReq, opReadReq, opReadByGroupTypeReq, opWriteReq}
 use Rattle.state.specs.Central.{Central}
+pub use Rattle.state.specs.Kept.{waiting, kept, noResponse}
 use Rattle.state.specs.declared.Counts.{Counts}
 use Rattle.state.specs.declared.Bearer.{Bearer}
 use Rattle.state.specs.declared.Running.{Running}
-use Rattle.state.specs.declared.Queue.{Queue}
 use Rattle.state.specs.declared.Queued.{Queued}
-use Rattle.state.specs.declared.Results.{Results}
 use Rattle.state.specs.declared.StepResult.{StepResult}
 use Rattle.state.specs.declared.Reports.{Reports}
 pub use Rattle.counters.specs.Counters.{mostNotified, notifiedFits, waitFits, mostRefused, refusedFits, lastIndex, indexFits}
@@ -54,22 +53,16 @@ countsFit n reports keys =
 abbrev pub heldFits : Bearer → Bool
 heldFits b = implies (b .present) (leb (b .held) frameSize)
 
--- the results that are kept, and their values
-abbrev pub kept : Results → List StepResult
-kept r = take (r .count) (r .kept)
-
+-- the values of the results that are kept
 abbrev pub resultsFit : List StepResult → Bool
 resultsFit l = fitting (λ x. x .len) resultSize l
 
--- the lengths of the reports' advertising data, and of their scan responses, where 32 stands for none
+-- the lengths of the reports' advertising data, and of their scan responses
 abbrev pub dataLengths : Reports → List ℕ
 dataLengths r = take (r .count) (r .heard .len)
 
 abbrev pub responseLengths : Reports → List ℕ
 responseLengths r = take (r .count) (r .heard .response)
-
-abbrev pub noResponse : ℕ
-noResponse = 32
 
 abbrev pub lengthsFit : ℕ → List ℕ → Bool
 lengthsFit most l = fitting (λ n. n) most l
@@ -83,9 +76,6 @@ mtuFits b = implies (b .present) (within leastMtu mostMtu (b .link .mtu))
 
 abbrev pub runningFits : Running → Bool
 runningFits r = implies (r .active) (stepFits (r .step) (r .len))
-
-abbrev pub waiting : Queue → List Queued
-waiting q = take (q .count) (q .kept)
 
 abbrev pub stepsFit : List Queued → Bool
 stepsFit l = all (λ q. stepFits (q .step) (q .len)) l

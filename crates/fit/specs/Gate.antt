@@ -1,6 +1,6 @@
 -- Refusals 1 to 3, which calls share, in their order (01, 'Refusal numbers'; the order is firstRefusal's, of crate refusals).
 use Prim.Native.Nat.{ℕ}
-use mathlib.Core.Bool.{Bool, true, false, not, _&&_}
+use mathlib.Core.Bool.{true, not, _&&_}
 use lib.Dec.{eqb, leb}
 use Rattle.base.specs.Choice.{pick}
 use Rattle.places.specs.Sizes.{storeSize, outputSize}

@@ -1,11 +1,10 @@
 -- What a gate that refuses nothing has shown, and that it refuses nothing then.
-use Prim.Native.Nat.{ℕ, _≤_, _<_}
-use mathlib.Core.Path.{_≡_, refl, sym, ap, _∙_}
+use Prim.Native.Nat.{ℕ, _≤_}
+use mathlib.Core.Path.{_≡_, refl, ap, _∙_}
 use mathlib.Core.Bool.{Bool, true, false, not, _&&_}
 use native.Mathlib.Omega.{arith}
-use lib.Dec.{eqb, leb, ltb}
+use lib.Dec.{eqb, leb}
 use borrow.Author.Tests.{eqb-true, leb-true, ltb-false, not-true, eq-eqb, ne-eqb, le-leb, le-ltb}
-use Rattle.base.specs.Choice.{pick}
 use Rattle.places.specs.Sizes.{storeSize, outputSize}
 use Rattle.time.specs.declared.Micros.{Micros}
 use Rattle.time.specs.Clock.{latest, tooLate}

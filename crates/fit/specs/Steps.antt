@@ -1,8 +1,9 @@
--- What a batch accepts of a step (01, refusal 4), and which steps wait for an ATT response. The script's gate and fit go by these.
+-- What a batch accepts of a step (01, refusal 4). The script's gate and fit go by it, and by the kinds of steps.
 use Prim.Native.Nat.{ℕ}
-use mathlib.Core.Bool.{Bool, true, false, not, _&&_, _||_}
+use mathlib.Core.Bool.{Bool, not, _&&_, _||_}
 use lib.Dec.{leb}
 use Rattle.places.specs.Sizes.{valueSize}
+pub use Rattle.kinds.specs.Kinds.{carries, attStep}
 use Rattle.state.specs.declared.Step.{Step}
 use Rattle.state.specs.declared.Step.the-variants.{Scan, Connect, ExchangeMtu, DiscoverServices, DiscoverCharacteristics, Subscribe, Write, Read, WaitNotification, Wait, Disconnect, Capture, CaptureSecrets}
 
@@ -16,22 +17,6 @@ leastMtu = 23
 
 abbrev pub mostMtu : ℕ
 mostMtu = 247
-
--- whether a step has bytes: a Write its value, a WaitNotification its `contains`
-abbrev pub carries : Step → Bool
-carries (Scan ms) = false
-carries (Connect target interval latency timeout ms) = false
-carries (ExchangeMtu mtu) = false
-carries DiscoverServices = false
-carries (DiscoverCharacteristics service) = false
-carries (Subscribe characteristic indicate) = false
-carries (Write characteristic response) = true
-carries (Read characteristic) = false
-carries (WaitNotification characteristic ms) = true
-carries (Wait ms) = false
-carries Disconnect = false
-carries (Capture enabled) = false
-carries (CaptureSecrets secrets) = false
 
 -- the MTU that a step names, or 0 where it names none
 abbrev pub mtuNamed : Step → ℕ
@@ -52,19 +37,3 @@ mtuNamed (CaptureSecrets secrets) = 0
 -- a step with n bytes, as a batch accepts it
 unfoldable pub stepFits : Step → ℕ → Bool
 stepFits step n = implies (carries step) (leb n valueSize) && leb (mtuNamed step) mostMtu
-
--- the steps that send ATT requests: ExchangeMtu, either discovery, Subscribe, Write and Read
-abbrev pub attStep : Step → Bool
-attStep (Scan ms) = false
-attStep (Connect target interval latency timeout ms) = false
-attStep (ExchangeMtu mtu) = true
-attStep DiscoverServices = true
-attStep (DiscoverCharacteristics service) = true
-attStep (Subscribe characteristic indicate) = true
-attStep (Write characteristic response) = true
-attStep (Read characteristic) = true
-attStep (WaitNotification characteristic ms) = false
-attStep (Wait ms) = false
-attStep Disconnect = false
-attStep (Capture enabled) = false
-attStep (CaptureSecrets secrets) = false

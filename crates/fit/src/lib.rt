@@ -4,7 +4,7 @@ ghost use Prim.Native.Nat.{_≤_, max};
 ghost use lib.ListN.{length, take};
 ghost use Rattle.places.specs.Sizes.{mostSteps, mostResults, mostReports};
 ghost use Rattle.state.specs.Central.{central};
-ghost use Rattle.fit.specs.Steps.{carries, mtuNamed, stepFits, attStep};
+ghost use Rattle.fit.specs.Steps.{mtuNamed, stepFits};
 ghost use Rattle.fit.specs.Fit.{countsFit, resultsFit, lengthsFit, stepsFit, isRequest, fits};
 ghost use Rattle.fit.specs.Parts.{stepFit, bearerFits, headFits};
 ghost use Rattle.fit.specs.Gate.{firstRefusal, gate, gateQuiet, gateReader};
@@ -39,42 +39,6 @@ const LAST_PHASE: u8 = 2;
 const LAST_DEADLINE: u64 = 9_223_372_036_854_775_808;
 
 // ---- steps
-
-// Whether a step has bytes in the store.
-pub fn carries(step: Step) -> bool
-    ensures { λ r. ⌜ r ≡ carries step ⌝ }
-{
-    match step {
-        Step::Scan { ms: _ } => false,
-        Step::Connect {
-            target: _,
-            interval: _,
-            latency: _,
-            timeout: _,
-            within_ms: _,
-        } => false,
-        Step::ExchangeMtu { mtu: _ } => false,
-        Step::DiscoverServices => false,
-        Step::DiscoverCharacteristics { service: _ } => false,
-        Step::Subscribe {
-            characteristic: _,
-            indicate: _,
-        } => false,
-        Step::Write {
-            characteristic: _,
-            with_response: _,
-        } => true,
-        Step::Read { characteristic: _ } => false,
-        Step::WaitNotification {
-            characteristic: _,
-            within_ms: _,
-        } => true,
-        Step::Wait { ms: _ } => false,
-        Step::Disconnect => false,
-        Step::Capture { enabled: _ } => false,
-        Step::CaptureSecrets { secrets: _ } => false,
-    }
-}
 
 // The MTU that a step names, or 0.
 fn mtu_named(step: Step) -> u16
@@ -112,47 +76,11 @@ fn mtu_named(step: Step) -> u16
     }
 }
 
-// Whether a step sends ATT requests.
-pub fn is_att(step: Step) -> bool
-    ensures { λ r. ⌜ r ≡ attStep step ⌝ }
-{
-    match step {
-        Step::Scan { ms: _ } => false,
-        Step::Connect {
-            target: _,
-            interval: _,
-            latency: _,
-            timeout: _,
-            within_ms: _,
-        } => false,
-        Step::ExchangeMtu { mtu: _ } => true,
-        Step::DiscoverServices => true,
-        Step::DiscoverCharacteristics { service: _ } => true,
-        Step::Subscribe {
-            characteristic: _,
-            indicate: _,
-        } => true,
-        Step::Write {
-            characteristic: _,
-            with_response: _,
-        } => true,
-        Step::Read { characteristic: _ } => true,
-        Step::WaitNotification {
-            characteristic: _,
-            within_ms: _,
-        } => false,
-        Step::Wait { ms: _ } => false,
-        Step::Disconnect => false,
-        Step::Capture { enabled: _ } => false,
-        Step::CaptureSecrets { secrets: _ } => false,
-    }
-}
-
 // Whether a batch accepts a step with len bytes.
 pub fn step_fits(step: Step, len: usize) -> bool
     ensures { λ r. ⌜ r ≡ stepFits step len ⌝ }
 {
-    (!carries(step) | (len <= places::MAX_VALUE)) & (mtu_named(step) <= MAX_MTU)
+    (!kinds::carries(step) | (len <= places::MAX_VALUE)) & (mtu_named(step) <= MAX_MTU)
 }
 
 fn wide(x: u8) -> usize
@@ -266,7 +194,7 @@ fn bearer_fits(b: Bearer, r: Running) -> bool
     let step = r.step;
     (!present | (b.held <= places::MAX_FRAME))
         & (!present | ((MIN_MTU <= mtu) & (mtu <= MAX_MTU)))
-        & (!(present & !quiet) | (is_request(pending) & r.active & is_att(step)))
+        & (!(present & !quiet) | (is_request(pending) & r.active & kinds::is_att(step)))
 }
 
 // All of fit but the tables.

@@ -20,7 +20,7 @@ use Rattle.fit.specs.Fit.{mostNotified}
 use Rattle.fit.specs.Gate.{gate}
 use Rattle.fit.specs.GateLaws.{Passed, passed}
 use Rattle.fit.specs.Refusals.{accepted, counterFull, longFrame}
-use Rattle.turns.specs.World.{Held, held}
+use Rattle.turns.specs.World.{held}
 use Rattle.fragments.specs.Fragment.{holding, withHeld, dropped, heldBefore, gathered, whole, heldFits, gateFragment, refusing}
 
 -- ---- what is held

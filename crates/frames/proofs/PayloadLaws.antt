@@ -5,8 +5,7 @@ use mathlib.Core.List.{List}
 use native.Mathlib.Omega.{arith}
 use lib.ListN.{take, drop}
 use Rattle.queues.specs.Blocks.{bytes}
-use Rattle.state.specs.Central.{Central, central, withBearer}
-use Rattle.state.specs.declared.State.{State}
+use Rattle.state.specs.Central.{Central, withBearer}
 use Rattle.state.specs.declared.Bearer.{Bearer}
 use Rattle.state.specs.declared.Link.{Link}
 use Rattle.turns.specs.Finish.{withLink}

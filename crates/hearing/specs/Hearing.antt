@@ -1,7 +1,7 @@
 -- An advertisement and a scan response: what the call answers, the state that it leaves, and every byte of the store
 -- (01, 'Refusal numbers' and 'Rules of the radio side').
 use Prim.Native.Nat.{ℕ}
-use mathlib.Core.Bool.{Bool, true, false, not, _&&_}
+use mathlib.Core.Bool.{Bool, not, _&&_}
 use mathlib.Core.List.{List}
 use lib.ListN.{length}
 use lib.Dec.{eqb, ltb, leb}

@@ -1,34 +1,34 @@
 -- Fit goes to fit; the arrays and the store keep their sizes.
-use Prim.Native.Nat.{ℕ, zero, suc, _+_, _≤_, _<_, min}
+use Prim.Native.Nat.{ℕ, zero, suc, _+_, _≤_, min}
 use mathlib.Core.Path.{_≡_, refl, ap, _∙_}
-use mathlib.Core.Bool.{Bool, true, false, not, _&&_}
+use mathlib.Core.Bool.{Bool, true, false, _&&_}
 use mathlib.Core.List.{List, [], _∷_}
 use native.Mathlib.Omega.{arith}
 use lib.ListN.{length, take, set, length-set}
 use lib.Seq.{length-take-le}
 use lib.Dec.{eqb, ltb, leb}
-use borrow.Author.Tests.{le-leb, eqb-true, eqb-false, ltb-true}
+use borrow.Author.Tests.{le-leb, eqb-true, eqb-false}
 use Rattle.base.specs.Choice.{pick}
 use Rattle.base.proofs.SpliceLaws.{length-splice}
 use Rattle.places.specs.Sizes.{mostKeys, dataSize, reportAt, responseAt}
-use Rattle.queues.specs.Queue.{all, pushed, onto}
+use Rattle.queues.specs.Queue.{all, pushed}
 use Rattle.queues.specs.QueueLaws.{length-pushed, pushed-within, take-onto, length-onto, all-pushed}
 use Rattle.queues.specs.ScanLaws.{all-head, all-tail, all-cons}
 use Rattle.queues.specs.BlockLaws.{length-stored}
 use Rattle.time.specs.declared.Micros.{Micros}
-use Rattle.state.specs.Central.{Central, withReports, withKeys}
+use Rattle.state.specs.Central.{Central, withReports}
 use Rattle.state.specs.declared.Address.{Address}
 use Rattle.state.specs.declared.Reports.{Reports}
-use Rattle.fit.specs.Fit.{fits, lengthsFit, dataLengths, responseLengths}
+use Rattle.fit.specs.Fit.{lengthsFit, dataLengths, responseLengths}
 use Rattle.fit.specs.Facts.{Fit}
-use Rattle.fit.specs.FitLaws.{fit-of, of-fit, fit-reports, fit-keys}
+use Rattle.fit.specs.FitLaws.{fit-reports, fit-keys}
 use Rattle.fit.specs.Gate.{gateQuiet}
-use Rattle.reports.specs.Reports.{reportPart, noResponse, Line, heardAgain, againStore, behind, heardFirst, firstStore, responded, responseStore, askedToo, placeOf, lastPlace}
-use Rattle.reports.specs.ReportLaws.{Whole}
+use Rattle.reports.specs.Reports.{reportPart, noResponse, Line, heardAgain, againStore, behind, heardFirst, firstStore, responded, askedToo, placeOf, lastPlace}
+use Rattle.reports.specs.Whole.{Whole}
 use Rattle.reports.specs.Key.{key}
 use Rattle.matching.specs.Matching.{listens}
 use Rattle.hearing.specs.Hearing.{Outcome, unchanged, thenData, Adv, line, due, refusal, requested, weighed, acted, heard, advertised, responseRefusal, answered, scanResponded}
-use Rattle.hearing.specs.HearingLaws.{Passed, passed}
+use Rattle.hearing.specs.HearingLaws.{passed}
 
 -- ---- lengths in an array
 

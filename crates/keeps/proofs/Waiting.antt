@@ -24,7 +24,7 @@ use Rattle.fit.specs.Facts.{Fit}
 use Rattle.turns.specs.World.{Held}
 use Rattle.waiting.specs.declared.Placed.{Placed}
 use Rattle.waiting.specs.Batch.{valueLen, queued}
-use Rattle.waiting.specs.Waiting.{live, queueing, refusing, pushOne, pushAll, takeStep}
+use Rattle.waiting.specs.Waiting.{waiting, queueing, refusing, pushOne, pushAll, takeStep}
 use Rattle.keeps.specs.Nearly.{Nearly}
 use Rattle.keeps.specs.Timed.{narrow, Timed}
 use Rattle.keeps.proofs.Turns.{fit-of}
@@ -35,7 +35,7 @@ short : {A : Type 0} (n : ℕ) (l : List A) → length (take n l) ≤ n
 short n l = omega (arith, length-take n l)
 
 -- what holds of a list holds of the queue that has it
-queueing-all : (f : Queued → Bool) (q : Queue) (l : List Queued) → all f l ≡ true → all f (live (queueing q l)) ≡ true
+queueing-all : (f : Queued → Bool) (q : Queue) (l : List Queued) → all f l ≡ true → all f (waiting (queueing q l)) ≡ true
 queueing-all f q l e = ap (all f) (take-onto (q .kept) l) ∙ e
 
 -- what holds of all that wait holds of the first, and of what stands for it where there is none
@@ -59,17 +59,17 @@ module _ (h : Held) (f : Nearly (h .state)) (some : 0 < h .state .queue .count) 
   q = h .state .queue
 
   abbrev rest : List Queued
-  rest = drop 1 (live q)
+  rest = drop 1 (waiting q)
 
   fewer : length rest + 1 ≤ q .count
-  fewer = omega (arith, length-drop 1 (live q), short (q .count) (q .kept))
+  fewer = omega (arith, length-drop 1 (waiting q), short (q .count) (q .kept))
 
   pub take-keeps : Took h (takeStep h)
   unfolding takeStep stepFits narrow
   take-keeps =
       record {
         nearly = record {
-          waits = record { few = omega (arith, fewer, f .waits .few); fit = queueing-all (λ x. stepFits (x .step) (x .len)) q rest (all-drop (λ x. stepFits (x .step) (x .len)) 1 (live q) (f .waits .fit)) };
+          waits = record { few = omega (arith, fewer, f .waits .few); fit = queueing-all (λ x. stepFits (x .step) (x .len)) q rest (all-drop (λ x. stepFits (x .step) (x .len)) 1 (waiting q) (f .waits .fit)) };
           keys = omega arith;
           results = f .results;
           peer = f .peer;
@@ -85,7 +85,7 @@ module _ (h : Held) (f : Nearly (h .state)) (some : 0 < h .state .queue .count) 
         undated = refl;
         timed = λ t. record {
           running = λ p. first-of (λ x. narrow (x .step)) (q .kept) (q .count) noQueued some refl (t .waiting);
-          waiting = queueing-all (λ x. narrow (x .step)) q rest (all-drop (λ x. narrow (x .step)) 1 (live q) (t .waiting));
+          waiting = queueing-all (λ x. narrow (x .step)) q rest (all-drop (λ x. narrow (x .step)) 1 (waiting q) (t .waiting));
           deadline = λ p e. absurd (false≢true e);
         };
       }
@@ -120,10 +120,10 @@ module _ (h : Held) (values : List ℕ) (p : Placed) where
   k = h .state .queue
 
   abbrev more : List Queued
-  more = live k ++ (queued p ∷ [])
+  more = waiting k ++ (queued p ∷ [])
 
   longer : length more ≤ k .count + 1
-  longer = omega (arith, length-append (live k) (queued p ∷ []), short (k .count) (k .kept))
+  longer = omega (arith, length-append (waiting k) (queued p ∷ []), short (k .count) (k .kept))
 
   abbrev into : Held
   into =
@@ -135,9 +135,9 @@ module _ (h : Held) (values : List ℕ) (p : Placed) where
   abbrev over : Held
   over = record { state = withCounters (h .state) (refusing (h .state .counters)); store = h .store }
 
-  joined : (g : Queued → Bool) → all g (live k) ≡ true → g (queued p) ≡ true → all g (live (queueing k more)) ≡ true
+  joined : (g : Queued → Bool) → all g (waiting k) ≡ true → g (queued p) ≡ true → all g (waiting (queueing k more)) ≡ true
   unfolding all
-  joined g e x = queueing-all g k more (all-append g (live k) (queued p ∷ []) e (all-cons g (queued p) [] x refl))
+  joined g e x = queueing-all g k more (all-append g (waiting k) (queued p ∷ []) e (all-cons g (queued p) [] x refl))
 
   pub push-keeps : Nearly (h .state) → stepFits (p .step) (p .len) ≡ true
       → h .state .counters .«next_index» + k .count + 1 ≤ lastIndex → h .state .counters .«refused_steps» + 1 ≤ mostRefused

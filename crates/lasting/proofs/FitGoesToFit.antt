@@ -17,7 +17,6 @@ use Rattle.state.specs.declared.StepStatus.the-variants.{Ok}
 use Rattle.fit.specs.Facts.{Fit}
 use Rattle.fit.specs.FitLaws as fit
 use Rattle.fit.specs.Gate.{gate, gateQuiet}
-use Rattle.fit.specs.GateLaws.{passed}
 use Rattle.fit.specs.Refusals.{accepted}
 use Rattle.turns.specs.World.{Held, World, onHeld, onState}
 use Rattle.starts.specs.Start.{ends}

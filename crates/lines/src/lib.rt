@@ -1,3 +1,2 @@
-// The lines of a trace player (docs/TRACE.md, 'Lines'), word by word; the kinds of steps.
-pub mod kinds;
+// The lines of a trace player (docs/TRACE.md, 'Lines'), word by word.
 pub mod line;

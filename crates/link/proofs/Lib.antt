@@ -1,3 +1,1 @@
-pub mod ChannelLaws
-pub mod FrameLaws
 pub mod CallLaws

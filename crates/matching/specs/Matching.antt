@@ -1,6 +1,6 @@
 -- What the running step makes of an advertisement (01, 'Rules of the radio side').
 use Prim.Native.Nat.{ℕ}
-use mathlib.Core.Bool.{Bool, true, false, _&&_, _||_}
+use mathlib.Core.Bool.{Bool, true, _&&_, _||_}
 use mathlib.Core.List.{List}
 use lib.Dec.{eqb}
 use Rattle.base.specs.Choice.{pick}
@@ -11,6 +11,7 @@ use Rattle.state.specs.declared.Target.the-variants as target
 use Rattle.state.specs.declared.Step.{Step}
 use Rattle.state.specs.declared.Step.the-variants.{Scan, Connect, ExchangeMtu, DiscoverServices, DiscoverCharacteristics, Subscribe, Write, Read, WaitNotification, Wait, Disconnect, Capture, CaptureSecrets}
 use Rattle.state.specs.declared.Running.{Running}
+use Rattle.kinds.specs.Kinds.{isScan, isConnect}
 use Rattle.reports.specs.Key.{key}
 use Rattle.matching.specs.declared.AdvAction.{AdvAction}
 use Rattle.matching.specs.declared.AdvAction.the-variants as action
@@ -36,43 +37,13 @@ connectable pdu us = eqb pdu advInd || (eqb pdu advDirectInd && us)
 
 -- ---- the running step
 
-abbrev pub scanStep : Step → Bool
-scanStep (Scan ms) = true
-scanStep (Connect target interval latency timeout ms) = false
-scanStep (ExchangeMtu mtu) = false
-scanStep DiscoverServices = false
-scanStep (DiscoverCharacteristics service) = false
-scanStep (Subscribe characteristic indicate) = false
-scanStep (Write characteristic response) = false
-scanStep (Read characteristic) = false
-scanStep (WaitNotification characteristic ms) = false
-scanStep (Wait ms) = false
-scanStep Disconnect = false
-scanStep (Capture enabled) = false
-scanStep (CaptureSecrets secrets) = false
-
-abbrev pub connectStep : Step → Bool
-connectStep (Scan ms) = false
-connectStep (Connect target interval latency timeout ms) = true
-connectStep (ExchangeMtu mtu) = false
-connectStep DiscoverServices = false
-connectStep (DiscoverCharacteristics service) = false
-connectStep (Subscribe characteristic indicate) = false
-connectStep (Write characteristic response) = false
-connectStep (Read characteristic) = false
-connectStep (WaitNotification characteristic ms) = false
-connectStep (Wait ms) = false
-connectStep Disconnect = false
-connectStep (Capture enabled) = false
-connectStep (CaptureSecrets secrets) = false
-
 -- advertisements are heard during Scan and Connect
 unfoldable pub listens : Running → Bool
-listens r = r .active && (scanStep (r .step) || connectStep (r .step))
+listens r = r .active && (isScan (r .step) || isConnect (r .step))
 
 -- a Scan asks who advertises with a scannable PDU
 unfoldable pub asks : Running → ℕ → Bool
-asks r pdu = r .active && scanStep (r .step) && scannable pdu
+asks r pdu = r .active && isScan (r .step) && scannable pdu
 
 -- ---- a Connect's target
 

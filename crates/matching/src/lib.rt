@@ -6,7 +6,7 @@ ghost use Rattle.places.specs.Sizes.{mostReports, storeSize};
 ghost use Rattle.uuid.specs.Value.{num};
 ghost use Rattle.advertising.specs.Ad.{listsService};
 ghost use Rattle.reports.specs.Reports.{responseBytes};
-ghost use Rattle.matching.specs.Matching.{scannable, connectable, scanStep, connectStep, listens, asks, reaches, chosen};
+ghost use Rattle.matching.specs.Matching.{scannable, connectable, listens, asks, reaches, chosen};
 use state::Running;
 use state::Step;
 use state::Target;
@@ -47,82 +47,12 @@ pub fn is_connectable(pdu: u8, us: bool) -> bool
     (pdu == ADV_IND) | ((pdu == ADV_DIRECT_IND) & us)
 }
 
-fn is_scan(step: Step) -> bool
-    ensures { λ r. ⌜ r ≡ scanStep step ⌝ }
-{
-    match step {
-        Step::Scan { ms: _ } => true,
-        Step::Connect {
-            target: _,
-            interval: _,
-            latency: _,
-            timeout: _,
-            within_ms: _,
-        } => false,
-        Step::ExchangeMtu { mtu: _ } => false,
-        Step::DiscoverServices => false,
-        Step::DiscoverCharacteristics { service: _ } => false,
-        Step::Subscribe {
-            characteristic: _,
-            indicate: _,
-        } => false,
-        Step::Write {
-            characteristic: _,
-            with_response: _,
-        } => false,
-        Step::Read { characteristic: _ } => false,
-        Step::WaitNotification {
-            characteristic: _,
-            within_ms: _,
-        } => false,
-        Step::Wait { ms: _ } => false,
-        Step::Disconnect => false,
-        Step::Capture { enabled: _ } => false,
-        Step::CaptureSecrets { secrets: _ } => false,
-    }
-}
-
-fn is_connect(step: Step) -> bool
-    ensures { λ r. ⌜ r ≡ connectStep step ⌝ }
-{
-    match step {
-        Step::Scan { ms: _ } => false,
-        Step::Connect {
-            target: _,
-            interval: _,
-            latency: _,
-            timeout: _,
-            within_ms: _,
-        } => true,
-        Step::ExchangeMtu { mtu: _ } => false,
-        Step::DiscoverServices => false,
-        Step::DiscoverCharacteristics { service: _ } => false,
-        Step::Subscribe {
-            characteristic: _,
-            indicate: _,
-        } => false,
-        Step::Write {
-            characteristic: _,
-            with_response: _,
-        } => false,
-        Step::Read { characteristic: _ } => false,
-        Step::WaitNotification {
-            characteristic: _,
-            within_ms: _,
-        } => false,
-        Step::Wait { ms: _ } => false,
-        Step::Disconnect => false,
-        Step::Capture { enabled: _ } => false,
-        Step::CaptureSecrets { secrets: _ } => false,
-    }
-}
-
 // Whether advertisements are heard.
 pub fn is_listening(r: Running) -> bool
     ensures { λ x. ⌜ x ≡ listens r ⌝ }
 {
     let step = r.step;
-    r.active & (is_scan(step) | is_connect(step))
+    r.active & (kinds::is_kind(step, kinds::SCAN) | kinds::is_kind(step, kinds::CONNECT))
 }
 
 // Whether who advertises so is asked.
@@ -130,7 +60,7 @@ pub fn is_asking(r: Running, pdu: u8) -> bool
     ensures { λ x. ⌜ x ≡ asks r pdu ⌝ }
 {
     let step = r.step;
-    r.active & is_scan(step) & is_scannable(pdu)
+    r.active & kinds::is_kind(step, kinds::SCAN) & is_scannable(pdu)
 }
 
 fn wide(x: u8) -> usize

@@ -1,6 +1,6 @@
 // Sizes and the places of the lent store: the one file that computes them.
 ghost use mathlib.Core.Path.{_≡_};
-ghost use Prim.Native.Nat.{_+_, _*_, _≤_, _<_};
+ghost use Prim.Native.Nat.{_+_, _*_, _<_};
 ghost use Rattle.places.specs.Sizes.{waitingAt, resultAt, notificationAt, reportAt, responseAt};
 
 pub const MAX_STEPS: usize = 64;

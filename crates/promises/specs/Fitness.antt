@@ -1,29 +1,25 @@
 -- Fit goes to fit over every sequence of calls, so none meets refusal 1.
-use Prim.Native.Nat.{ℕ, _≤_}
-use mathlib.Core.Path.{_≡_, refl, sym, ap, _∙_, subst}
-use mathlib.Core.Bool.{Bool, true, false, not, _&&_, false≢true}
-use mathlib.Core.List.{List, [], _∷_, _++_}
+use Prim.Native.Nat.{ℕ}
+use mathlib.Core.Path.{_≡_, refl, sym, ap, _∙_}
+use mathlib.Core.Bool.{Bool, true, false, _&&_, false≢true}
+use mathlib.Core.List.{List, [], _∷_}
 use native.Mathlib.Omega.{arith}
 use lib.ListN.{length}
 use lib.Dec.{eqb, leb}
 use borrow.Author.Tests.{eqb-true}
 use Rattle.base.specs.Choice.{pick}
-use Rattle.places.specs.Sizes.{storeSize, outputSize, mostKeys, dataSize}
+use Rattle.places.specs.Sizes.{mostKeys, dataSize}
 use Rattle.queues.specs.Blocks.{Valued}
-use Rattle.time.specs.declared.Micros.{Micros}
-use Rattle.time.specs.Clock.{tooLate}
 use Rattle.state.specs.Central.{Central}
-use Rattle.state.specs.declared.Address.{Address}
 use Rattle.state.specs.declared.Queue.{Queue}
 use Rattle.state.specs.declared.Queued.{Queued}
 use Rattle.state.specs.declared.Running.{Running}
 use Rattle.state.specs.declared.StepResult.{StepResult}
 use Rattle.fit.specs.Fit.{fits, waiting, mostNotified}
 use Rattle.fit.specs.FitLaws as fit-laws
-use Rattle.fit.specs.Gate.{firstRefusal, gate, gateQuiet, gateReader}
-use Rattle.fit.specs.Refusals.{accepted, unfit, wrongSize, lateTime, badBatch, counterFull, longData, longFrame, keysFull}
+use Rattle.fit.specs.Gate.{firstRefusal, gate, gateQuiet}
+use Rattle.fit.specs.Refusals.{accepted, unfit, badBatch, counterFull, longData, longFrame, keysFull}
 use Rattle.turns.specs.World.{Held}
-use Rattle.waiting.specs.declared.Batch.{Batch}
 use Rattle.keeps.specs.Timed.{Narrow, narrow, narrowAll}
 use Rattle.calls.specs.Outcome.{Outcome, done}
 use Rattle.batch.specs.Batch.{gateBatch, batchFits, countersFit}
@@ -35,7 +31,6 @@ use Rattle.hearing.specs.Keeps as radio-keeps
 use Rattle.fragments.specs.Fragment.{gateFragment, heldFits}
 use Rattle.trails.specs.Calls.{Call, batch, timer, connected, disconnected, advertising, scanResponse, fragment, reads, does, left, run, gateOf, done?}
 use Rattle.trails.specs.Trail.{begins, goes, final}
-use Rattle.trails.specs.Log.{log, taken}
 use Rattle.trails.proofs.Ends.{refusedOf, does-law}
 use Rattle.trails.proofs.Goes.{Off, radio-off, response-off}
 use Rattle.books.proofs.Books.{Books}

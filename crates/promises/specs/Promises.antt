@@ -4,7 +4,7 @@
 -- tables of the worlds that the calls pass through (trails/specs/Log.antt). `events`: what came in, the requests among the bytes written,
 -- and the results, in their order (asks/specs/Events.antt). `OnWire`: wires/specs/Wire.antt. `handedIn`, `notices`: tallies/specs/Tally.antt.
 use Prim.Native.Nat.{ℕ, zero, suc, _+_, _-_, _<_}
-use mathlib.Core.Path.{_≡_, refl, sym, ap, _∙_}
+use mathlib.Core.Path.{_≡_, ap, _∙_}
 use mathlib.Core.Bool.{true}
 use mathlib.Core.List.{List, [], _∷_}
 use native.Mathlib.Omega.{arith}
@@ -14,13 +14,11 @@ use Rattle.queues.specs.Queue.{newest}
 use Rattle.queues.specs.Blocks.{Valued}
 use Rattle.uuid.specs.declared.Uuid.{Uuid}
 use Rattle.state.specs.Fresh.{noQueued}
-use Rattle.state.specs.declared.Queued.{Queued}
 use Rattle.state.specs.declared.StepResult.{StepResult}
 use Rattle.state.specs.declared.Step.the-variants.{Read}
 use Rattle.state.specs.declared.StepStatus.the-variants.{Ok}
 use Rattle.fit.specs.Fit.{fits, awaits}
 use Rattle.fit.specs.Refusals.{unfit}
-use Rattle.turns.specs.World.{Held}
 use Rattle.trails.specs.Calls.{Call, does, run}
 use Rattle.trails.specs.Log.{keptResults, log, taken}
 use Rattle.books.specs.InLine.{inLine}

@@ -24,10 +24,11 @@ use Rattle.fit.specs.FitLaws.{fit-of, headOf, all-fit}
 use Rattle.fit.specs.Gate.{firstRefusal, gateQuiet}
 use Rattle.reports.specs.Key.{key, seek}
 use Rattle.reports.specs.Reports.{reportPart, noResponse, advertisers, placeOf, Line, heardAgain, againStore, heardFirst, firstStore, lastPlace, responseBytes, askedToo}
-use Rattle.reports.specs.ReportLaws.{Whole}
+use Rattle.reports.specs.Whole.{Whole}
 use Rattle.report_tables.specs.Tables.{blockAt, keptResponse, counted}
 use Rattle.report_tables.specs.TableLaws.{Put, put-found, block-place, block-new, line-known, line-new}
-use Rattle.matching.specs.Matching.{scanStep, connectStep, scannable, listens, asks, chosen}
+use Rattle.kinds.specs.Kinds.{isScan, isConnect}
+use Rattle.matching.specs.Matching.{scannable, listens, asks, chosen}
 use Rattle.matching.specs.declared.AdvAction.{AdvAction}
 use Rattle.matching.specs.declared.AdvAction.the-variants as action
 use Rattle.radio.specs.declared.Advertised.{Advertised}
@@ -48,7 +49,7 @@ unfit-law c s v e = rw (← unfit-refusal c (length s) v e)
 -- where no advertisement is heard, nobody is asked
 quiet : (r : Running) (pdu : ℕ) → listens r ≡ false → asks r pdu ≡ false
 unfolding listens asks
-quiet r pdu e = go (r .active) (scanStep (r .step)) (connectStep (r .step)) (scannable pdu) e
+quiet r pdu e = go (r .active) (isScan (r .step)) (isConnect (r .step)) (scannable pdu) e
   where
     go : (a s k p : Bool) → (a && (s || k)) ≡ false → (a && s && p) ≡ false
     go true true k p e = absurd (true≢false e)

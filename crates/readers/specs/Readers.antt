@@ -1,6 +1,6 @@
 -- The calls that only read: `timer_us`, `connected_handle` and `result` (01, 'Refusal numbers': 1 and 2 alone apply to them).
 use Prim.Native.Nat.{ℕ, _+_}
-use mathlib.Core.Bool.{Bool, _&&_}
+use mathlib.Core.Bool.{_&&_}
 use mathlib.Core.List.{List, [], _∷_}
 use lib.Dec.{eqb}
 use Rattle.base.specs.Choice.{pick}

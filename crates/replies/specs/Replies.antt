@@ -14,8 +14,7 @@ use Rattle.signaling.specs.declared.Update as update
 use Rattle.signaling.specs.declared.Update.the-variants as update-variants
 use Rattle.waits.specs.Kept.{keeping, keptValue}
 use Rattle.fit.specs.Steps.{leastMtu, mostMtu}
-use Rattle.state.specs.Central.{Central, withCounters, withNotifications}
-use Rattle.state.specs.declared.Counters.{Counters}
+use Rattle.state.specs.Central.{withCounters, withNotifications}
 use Rattle.state.specs.declared.LinkRequest.the-variants.{Update}
 use Rattle.turns.specs.World.{Held, Told, World, onState}
 use Rattle.turns.specs.Send.{send}

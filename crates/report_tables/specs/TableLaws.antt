@@ -16,7 +16,7 @@ use Rattle.queues.specs.BlockLaws.{stored-room, stored-full}
 use Rattle.state.specs.declared.Reports.{Reports}
 use Rattle.reports.specs.Key.{seek}
 use Rattle.reports.specs.Reports.{reportPart, noResponse, advertisers, Line, heardAgain, againStore, behind, heardFirst, firstStore}
-use Rattle.reports.specs.ReportLaws.{Whole}
+use Rattle.reports.specs.Whole.{Whole}
 use Rattle.report_tables.specs.Tables.{putAt, blockAt, keptResponse, counted}
 
 -- ---- one table

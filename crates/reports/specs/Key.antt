@@ -1,9 +1,9 @@
 -- A device address and its type as one number, by which advertisers are told apart (Core Vol 6 Part B 1.3: an address has 48 bits, and is public or random).
 use Prim.Native.Nat.{ℕ, suc, _+_, _*_, _/_, _%_}
-use mathlib.Core.Bool.{Bool, true, false, _||_}
 use mathlib.Core.List.{List, [], _∷_}
 use lib.Dec.{eqb, leb}
 use Rattle.base.specs.Choice.{pick}
+unfoldable pub use Rattle.base.specs.Choice.{among}
 use Rattle.state.specs.declared.Address.{Address}
 
 -- 2^32, 2^16 and 2^48
@@ -28,8 +28,3 @@ addressOf k = record { low = k % lowPart; high = k / lowPart % highPart; random 
 unfoldable pub seek : ℕ → List ℕ → ℕ
 seek k [] = 0
 seek k (x ∷ l) = pick (eqb x k) 0 (suc (seek k l))
-
--- whether k is in a list
-unfoldable pub among : ℕ → List ℕ → Bool
-among k [] = false
-among k (x ∷ l) = eqb x k || among k l

@@ -1,4 +1,4 @@
 pub mod Key
 pub mod Reports
 pub mod KeyLaws
-pub mod ReportLaws
+pub mod Whole

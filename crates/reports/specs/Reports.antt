@@ -7,8 +7,8 @@ use Rattle.base.specs.Choice.{pick}
 use Rattle.base.specs.Splice.{splice}
 use Rattle.places.specs.Sizes.{mostReports, dataSize, reportAt, responseAt}
 use Rattle.queues.specs.Queue.{pushed, onto}
-use Rattle.queues.specs.Blocks.{Part, bytes, lowered, stored}
-use Rattle.state.specs.declared.Heard.{Heard}
+use Rattle.queues.specs.Blocks.{Part, bytes, stored}
+pub use Rattle.state.specs.Kept.{noResponse}
 use Rattle.state.specs.declared.Reports.{Reports}
 use Rattle.state.specs.declared.Keys.{Keys}
 use Rattle.reports.specs.Key.{seek}
@@ -16,10 +16,6 @@ use Rattle.reports.specs.Key.{seek}
 -- the reports' part of the store: a block has advertising data, then a scan response
 abbrev pub reportPart : Part
 reportPart = record { base = reportAt 0; size = 62; most = mostReports }
-
--- the length that stands for no scan response
-abbrev pub noResponse : ℕ
-noResponse = 32
 
 -- the advertisers, and those that the running scan has asked
 abbrev pub advertisers : Reports → List ℕ

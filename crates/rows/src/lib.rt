@@ -1,7 +1,6 @@
 // What each thing of an answer or of a state is in words (docs/TRACE.md, 'Lines'). Bytes stand in s.
 use characteristics::Cccd;
 use characteristics::Characteristic;
-use lines::kinds;
 use lines::line;
 use matching::AdvAction;
 use readers::Given;

@@ -12,7 +12,8 @@ use Rattle.uuid.specs.Value.{short}
 use Rattle.time.specs.declared.Micros.{Micros}
 use Rattle.places.specs.Sizes.{storeSize, outputSize}
 use Rattle.queues.specs.Queue.{all}
-use Rattle.advertising.specs.Ad.{listsService, reading, chunks, widthOf, uuidOf, anyLists}
+use Rattle.entries.specs.Cut.{chunks, entries}
+use Rattle.advertising.specs.Ad.{listsService, reading, widthOf, uuidOf, anyLists}
 use Rattle.params.specs.Params.{goodParams}
 use Rattle.wire.specs.Numbers.{cidAtt, cidSignaling}
 use Rattle.wire.specs.Frame.{l2capFrame, framed}
@@ -144,6 +145,7 @@ unfolding
     sameBytes
     reading
     chunks
+    entries
     widthOf
     uuidOf
     among

@@ -15,7 +15,6 @@ use Rattle.fit.specs.FitLaws.{both}
 use Rattle.turns.specs.World.{Held, World, onHeld}
 use Rattle.turns.specs.Ready.{Ready}
 use Rattle.waiting.specs.Waiting.{takeStep}
-use Rattle.starts.specs.Start.{start}
 use Rattle.keeps.specs.Timed.{Timed}
 use Rattle.keeps.specs.Sound.{Sound, Whole}
 use Rattle.keeps.proofs.Turns.{fit-of}

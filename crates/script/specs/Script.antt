@@ -1,6 +1,6 @@
 -- The script goes on: while no step runs and some wait, the first of them begins.
 use Prim.Native.Nat.{ℕ, zero, suc}
-use mathlib.Core.Bool.{Bool, true, false, not, _&&_}
+use mathlib.Core.Bool.{Bool, not, _&&_}
 use lib.Dec.{ltb}
 use Rattle.base.specs.Choice.{pick}
 use Rattle.time.specs.declared.Micros.{Micros}

@@ -6,6 +6,7 @@ use native.Mathlib.Omega.{arith}
 use lib.ListN.{length}
 use lib.Seq.{length-take-le}
 use Rattle.entries.proofs.TableLaws.{onto-self, length-onto}
+use Rattle.entries.specs.Taken.{taken}
 use Rattle.entries.proofs.TakenLaws.{taken-most}
 use Rattle.services.specs.Service.{known, holding, more, endOf, servicesTaken}
 use Rattle.services.specs.declared.Services.{Services}
@@ -20,4 +21,4 @@ module _ (t : Services) (es : List (List ℕ)) (h : t .count ≤ 32) (size : len
       taken-most more endOf 32 (known t) 65535 es (omega (arith, length-take-le (t .count) (t .kept) (omega arith)))
 
   pub taken-size : length (servicesTaken t es .table .kept) ≡ 32
-  taken-size = length-onto (t .kept) _ (omega (arith, taken-count)) ∙ size
+  taken-size = length-onto (t .kept) (taken more endOf 32 (known t) 65535 es .list) (omega (arith, taken-count)) ∙ size

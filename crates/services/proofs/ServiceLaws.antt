@@ -15,7 +15,7 @@ use Rattle.uuid.specs.declared.Uuid.{Uuid}
 use Rattle.uuid.specs.declared.Read as read
 use Rattle.uuid.specs.declared.Read.the-variants as read-variants
 use Rattle.entries.specs.Cut.{part}
-use Rattle.entries.specs.Table.{onto}
+use Rattle.queues.specs.Queue.{onto}
 use Rattle.entries.specs.Taken.{Have, have}
 use Rattle.entries.proofs.CutLaws.{drop-part, leAt-part}
 use Rattle.entries.proofs.TableLaws.{onto-self, set-onto}

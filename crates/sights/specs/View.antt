@@ -2,13 +2,13 @@
 -- (01, 'Rules of the radio side'). The view only reads: refusals 1 and 2 alone apply to it.
 use Prim.Native.Nat.{ℕ, _+_}
 use mathlib.Core.List.{List}
-use lib.ListN.{length, getD}
+use lib.ListN.{getD}
 use lib.Dec.{ltb, leb}
 use Rattle.base.specs.Choice.{pick}
 use Rattle.places.specs.Sizes.{dataSize, reportAt, responseAt}
 use Rattle.queues.specs.Blocks.{bytes}
 use Rattle.advertising.specs.Ad.{listing, structures}
-use Rattle.advertising.specs.Body.{bodyOf, bodyAt, listedBody}
+use Rattle.advertising.specs.Body.{bodyAt, listedBody}
 use Rattle.state.specs.Central.{Central}
 use Rattle.state.specs.declared.Reports.{Reports}
 use Rattle.fit.specs.Refusals.{accepted}

@@ -7,7 +7,7 @@ use native.Mathlib.Omega.{arith}
 use lib.ListN.{length, take, drop, getD}
 use denote.Ref.{RefT, now}
 use lib.Dec.{eqb, ltb, leb}
-use borrow.Author.Tests.{lt-ltb, le-ltb, eqb-true, ltb-true, leb-true, le-leb, lt-leb}
+use borrow.Author.Tests.{lt-ltb, le-ltb, eqb-true, ltb-true, leb-true}
 use Rattle.base.specs.Choice.{pick}
 use Rattle.places.specs.Sizes.{storeSize, dataSize, reportAt, responseAt, mostReports}
 use Rattle.queues.specs.ScanLaws.{all-at}
@@ -17,7 +17,7 @@ use Rattle.state.specs.declared.Address.{Address}
 use Rattle.reports.specs.Key.{addressOf}
 use Rattle.state.specs.declared.Reports.{Reports}
 use Rattle.fit.specs.Facts.{Fit}
-use Rattle.fit.specs.Gate.{gateReader, unless}
+use Rattle.fit.specs.Gate.{gateReader}
 use Rattle.fit.specs.GateLaws.{PassedReader, passed-reader, refuses, accepts}
 use Rattle.sights.specs.declared.Span.{Span}
 use Rattle.sights.specs.declared.AdvReport.{AdvReport}
@@ -25,7 +25,7 @@ use Rattle.sights.specs.declared.Response.{Response}
 use Rattle.sights.specs.declared.Response.the-variants as response
 use Rattle.sights.specs.declared.Seen.{Seen}
 use Rattle.sights.specs.declared.Seen.the-variants as seen
-use Rattle.sights.specs.View.{span, nowhere, responseIn, reportOf, view, dataIn, spanOf, answerIn, part, partAt, bodySeen, bodySeenAt, viewRefusal}
+use Rattle.sights.specs.View.{span, responseIn, reportOf, view, dataIn, spanOf, answerIn, part, partAt, bodySeen, bodySeenAt, viewRefusal}
 
 -- ---- the ways to an answer
 

@@ -1,7 +1,7 @@
 -- What each return of `start` asks, from what its callees ensure.
 use Prim.Native.Nat.{ℕ, _≤_, max}
-use mathlib.Core.Path.{_≡_, refl, sym, ap, subst, _∙_}
-use mathlib.Core.Bool.{Bool, true, false, not, _&&_, _||_}
+use mathlib.Core.Path.{_≡_, sym, ap, subst, _∙_}
+use mathlib.Core.Bool.{Bool, true, false}
 use mathlib.Core.List.{List}
 use native.Mathlib.Omega.{arith}
 use lib.Dec.{leb}
@@ -13,7 +13,7 @@ use Rattle.time.specs.declared.Millis.{Millis}
 use Rattle.uuid.specs.declared.Uuid.{Uuid}
 use Rattle.att_pdu.specs.Pdu.{exchangeMtuReq}
 use Rattle.services.specs.Service as service
-use Rattle.state.specs.Central.{Central, central}
+use Rattle.state.specs.Central.{central}
 use Rattle.state.specs.declared.Bearer.{Bearer}
 use Rattle.state.specs.declared.Running.{Running}
 use Rattle.state.specs.declared.State.{State}
@@ -23,7 +23,7 @@ use Rattle.state.specs.declared.Step.{Step}
 use Rattle.state.specs.declared.Step.the-variants.{Scan, Connect, ExchangeMtu, DiscoverServices, DiscoverCharacteristics, Subscribe, Write, Read, WaitNotification, Wait, Disconnect, Capture, CaptureSecrets}
 use Rattle.state.specs.declared.StepStatus.the-variants.{Ok}
 use Rattle.fit.specs.Facts.{Fit}
-use Rattle.fit.specs.FitLaws.{both, if-true}
+use Rattle.fit.specs.FitLaws.{both}
 use Rattle.fit.specs.Steps.{leastMtu, implies, carries, mtuNamed, mostMtu, stepFits}
 use Rattle.turns.specs.World.{Held, World, held, told, world, onHeld, onState}
 use Rattle.turns.specs.Send.{request}

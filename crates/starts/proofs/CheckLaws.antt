@@ -1,13 +1,12 @@
 -- What each return of the wait check asks, from what its callees ensure.
-use Prim.Native.Nat.{ℕ, _+_, _≤_, _<_}
-use mathlib.Core.Path.{_≡_, refl, sym, ap, subst, _∙_}
+use Prim.Native.Nat.{ℕ, _≤_}
+use mathlib.Core.Path.{_≡_, sym, ap, subst, _∙_}
 use mathlib.Core.Bool.{Bool, true, false}
 use mathlib.Core.List.{List}
-use native.Mathlib.Omega.{arith}
-use lib.ListN.{length, drop}
+use lib.ListN.{drop}
 use Rattle.base.specs.Choice.{pick}
 use Rattle.queues.specs.Blocks.{bytes}
-use Rattle.places.specs.Sizes.{runningAt, heldAt, storeSize, mostResults, mostNotifications}
+use Rattle.places.specs.Sizes.{runningAt, heldAt, mostResults, mostNotifications}
 use Rattle.time.specs.declared.Micros.{Micros}
 use Rattle.uuid.specs.declared.Uuid.{Uuid}
 use Rattle.waits.specs.Kept.{live, heard, valuesFit, skippedOf}
@@ -23,7 +22,7 @@ use Rattle.state.specs.declared.Counters.{Counters}
 use Rattle.state.specs.declared.Running.{Running}
 use Rattle.state.specs.declared.State.{State}
 use Rattle.state.specs.declared.StepStatus.the-variants.{Ok, NotFound}
-use Rattle.turns.specs.World.{Held, held, onState}
+use Rattle.turns.specs.World.{held, onState}
 use Rattle.turns.specs.Finish.{finish}
 use Rattle.starts.specs.declared.Awaited.{Awaited}
 use Rattle.starts.specs.declared.Awaited.the-variants as awaited-variants

@@ -6,9 +6,8 @@ use mathlib.Core.List.{List, [], _∷_}
 use native.Mathlib.Omega.{arith}
 use lib.ListN.{length}
 use borrow.Author.Tests.{lt-ltb, le-ltb}
-use Rattle.base.specs.Choice.{pick}
 use Rattle.base.specs.Bytes.{leBytes}
-use Rattle.places.specs.Sizes.{runningAt, storeSize, valueSize}
+use Rattle.places.specs.Sizes.{runningAt, valueSize}
 use Rattle.time.specs.declared.Micros.{Micros}
 use Rattle.time.specs.declared.Millis.{Millis}
 use Rattle.uuid.specs.declared.Uuid.{Uuid}
@@ -23,7 +22,7 @@ use Rattle.characteristics.specs.declared.Characteristic.{Characteristic}
 use Rattle.characteristics.specs.declared.Characteristics.{Characteristics}
 use Rattle.characteristics.specs.declared.Which.{Which}
 use Rattle.characteristics.specs.declared.Which.the-variants.{At, Nothing}
-use Rattle.state.specs.Central.{Central, central, withRunning}
+use Rattle.state.specs.Central.{Central, central}
 use Rattle.state.specs.declared.Bearer.{Bearer}
 use Rattle.state.specs.declared.Running.{Running}
 use Rattle.state.specs.declared.Sent.{Sent}

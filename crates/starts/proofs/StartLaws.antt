@@ -1,12 +1,10 @@
 -- What each return of the functions that begin a step asks, from what their callees ensure.
-use Prim.Native.Nat.{ℕ, _+_, _≤_, _<_, max}
-use mathlib.Core.Path.{_≡_, refl, sym, ap, subst, _∙_}
+use Prim.Native.Nat.{ℕ, _≤_, max}
+use mathlib.Core.Path.{_≡_, sym, ap, subst, _∙_}
 use mathlib.Core.Bool.{Bool, true, false}
 use mathlib.Core.List.{List, []}
 use native.Mathlib.Omega.{arith}
-use lib.ListN.{length}
 use Rattle.base.specs.Choice.{pick}
-use Rattle.places.specs.Sizes.{heldAt}
 use Rattle.time.specs.declared.Micros.{Micros}
 use Rattle.time.specs.declared.Millis.{Millis}
 use Rattle.time.specs.Clock.{deadline}
@@ -26,13 +24,11 @@ use Rattle.state.specs.declared.LinkRequest.the-variants.{Terminate}
 use Rattle.state.specs.declared.Running.{Running}
 use Rattle.state.specs.declared.Sent.{Sent}
 use Rattle.state.specs.declared.State.{State}
-use Rattle.state.specs.declared.Step.{Step}
-use Rattle.state.specs.declared.StepStatus.{StepStatus}
 use Rattle.state.specs.declared.StepStatus.the-variants.{Ok, NotConnected}
 use Rattle.state.specs.declared.Turn.{Turn}
 use Rattle.fit.specs.Steps.{leastMtu}
-use Rattle.turns.specs.World.{Held, Told, World, held, told, world, onHeld, onState}
-use Rattle.turns.specs.Finish.{withLink, finish}
+use Rattle.turns.specs.World.{Held, World, held, told, world, onHeld, onState}
+use Rattle.turns.specs.Finish.{withLink}
 use Rattle.turns.specs.Send.{Room, until, request}
 use Rattle.discovery.specs.Discovery.{discoverServices, discoverCharacteristics}
 use Rattle.starts.specs.declared.Alone.{Alone}

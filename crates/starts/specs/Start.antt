@@ -22,14 +22,13 @@ use Rattle.characteristics.specs.declared.Cccd.the-variants as cccd
 use Rattle.characteristics.specs.declared.Which.{Which}
 use Rattle.characteristics.specs.declared.Which.the-variants.{At, Nothing}
 use Rattle.state.specs.Central.{Central, withRunning, withBearer, withServices, withCharacteristics}
-use Rattle.state.specs.declared.Sent.{Sent}
 use Rattle.state.specs.declared.LinkRequest.the-variants.{Terminate}
 use Rattle.state.specs.declared.Step.{Step}
 use Rattle.state.specs.declared.Step.the-variants.{Scan, Connect, ExchangeMtu, DiscoverServices, DiscoverCharacteristics, Subscribe, Write, Read, WaitNotification, Wait, Disconnect, Capture, CaptureSecrets}
 use Rattle.state.specs.declared.StepStatus.{StepStatus}
 use Rattle.state.specs.declared.StepStatus.the-variants.{Ok, NotConnected, NotFound, TooLong}
 use Rattle.fit.specs.Steps.{leastMtu, carries}
-use Rattle.turns.specs.World.{Held, Told, World, onHeld, onTold, onState}
+use Rattle.turns.specs.World.{Held, Told, World, onHeld, onState}
 pub use Rattle.lent.specs.Record.{terminated}
 use Rattle.turns.specs.Finish.{withLink, finish}
 use Rattle.turns.specs.Send.{until, send, request}

@@ -1,8 +1,7 @@
 -- The wait check (01, 'Rules of the link'): what a WaitNotification step looks at, when it starts and at each notification.
 use Prim.Native.Nat.{ℕ, _≤_}
 use mathlib.Core.Path.{_≡_}
-use mathlib.Core.Bool.{Bool, true, false}
-use mathlib.Core.List.{List}
+use mathlib.Core.Bool.{Bool, true}
 use lib.ListN.{drop}
 use Rattle.base.specs.Choice.{pick}
 use Rattle.queues.specs.Blocks.{bytes}

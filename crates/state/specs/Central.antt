@@ -1,5 +1,4 @@
 -- The state as definitions speak of it: the Rust's `Central`, part by part, whatever its layout.
-use Prim.Native.Nat.{ℕ}
 use mathlib.Core.Path.{_≡_, refl, ap}
 use Rattle.services.specs.declared.Services.{Services}
 use Rattle.characteristics.specs.declared.Characteristics.{Characteristics}

@@ -1,12 +1,8 @@
 -- The state before the first call: nothing queued, running, kept, heard or linked, and all counters 0. What no count reaches is zero.
-use Prim.Native.Nat.{ℕ}
 use mathlib.Core.Bool.{false}
-use mathlib.Core.List.{List}
 use lib.ListN.{replicate}
-use Rattle.uuid.specs.declared.Uuid.{Uuid}
-use Rattle.services.specs.declared.Service.{Service}
-use Rattle.characteristics.specs.declared.Characteristic.{Characteristic}
-use Rattle.characteristics.specs.declared.Cccd.the-variants.{Unknown}
+use Rattle.services.specs.Service.{zero-service}
+use Rattle.characteristics.specs.Characteristic.{zero-characteristic}
 use Rattle.waits.specs.declared.Notification.{Notification}
 use Rattle.state.specs.Central.{Central}
 use Rattle.state.specs.declared.Queued.{Queued}
@@ -15,20 +11,11 @@ use Rattle.state.specs.declared.Running.{Running}
 use Rattle.state.specs.declared.Step.the-variants.{Scan}
 use Rattle.state.specs.declared.StepStatus.the-variants.{Ok}
 
-abbrev pub noUuid : Uuid
-noUuid = record { low = 0; high = 0 }
-
 abbrev pub noQueued : Queued
 noQueued = record { step = Scan (record { 0 = 0 }); len = 0 }
 
 abbrev pub noResult : StepResult
 noResult = record { index = 0; at = record { 0 = 0 }; status = Ok; len = 0 }
-
-abbrev pub noService : Service
-noService = record { start = 0; end = 0; uuid = noUuid }
-
-abbrev pub noCharacteristic : Characteristic
-noCharacteristic = record { declaration = 0; properties = 0; «value_handle» = 0; uuid = noUuid; cccd = Unknown }
 
 abbrev pub noNotification : Notification
 noNotification = record { at = record { 0 = 0 }; handle = 0; len = 0; indication = false }
@@ -50,7 +37,7 @@ freshCentral =
         count = 0;
       };
       bearer = record { held = 0; link = record { handle = 0; mtu = 0; pending = 0; terminating = false }; present = false };
-      services = record { kept = replicate 32 noService; count = 0 };
-      characteristics = record { kept = replicate 64 noCharacteristic; count = 0 };
+      services = record { kept = replicate 32 zero-service; count = 0 };
+      characteristics = record { kept = replicate 64 zero-characteristic; count = 0 };
       notifications = record { kept = replicate 32 noNotification; count = 0 };
     }

@@ -1,2 +1,3 @@
 pub mod Central
+pub mod Kept
 pub mod Fresh

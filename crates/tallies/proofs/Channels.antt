@@ -26,10 +26,8 @@ use Rattle.descriptors.specs.Named.{descriptorsNamed}
 use Rattle.state.specs.Central.{Central, withServices, withCharacteristics}
 use Rattle.state.specs.declared.StepStatus.{StepStatus}
 use Rattle.state.specs.declared.StepStatus.the-variants.{Ok, NotFound, AttError, TableFull}
-use Rattle.turns.specs.World.{Held, World, onHeld, onTold, onState}
-use Rattle.turns.specs.Finish.{finish}
+use Rattle.turns.specs.World.{Held, World, onTold}
 use Rattle.discovery.specs.Discovery.{lastHandle, discoverServices, discoverCharacteristics, discoverDescriptors}
-use Rattle.starts.specs.Wait.{checkWait}
 use Rattle.frames.specs.Payload.{payloadAt, payloadSize, payload, withMtu}
 use Rattle.replies.specs.Replies.{onSignaling, onSmp, refuse, exchange, keepOne, notice}
 use Rattle.questions.specs.declared.Goal.{Goal}

@@ -1,5 +1,5 @@
 -- Over every sequence of calls from a fresh state, with any store, refused calls included: both counters.
-use Prim.Native.Nat.{ℕ, _+_, _≤_}
+use Prim.Native.Nat.{ℕ, _+_}
 use mathlib.Core.Path.{_≡_, refl, sym, ap, subst}
 use mathlib.Core.Bool.{Bool, true, false}
 use mathlib.Core.List.{List, [], _∷_}
@@ -9,7 +9,6 @@ use lib.Dec.{eqb}
 use borrow.Author.Tests.{eqb-true}
 use Rattle.base.specs.Choice.{pick}
 use Rattle.queues.specs.Blocks.{Valued}
-use Rattle.state.specs.Central.{Central}
 use Rattle.state.specs.Fresh.{freshCentral}
 use Rattle.state.specs.declared.Counters.{Counters}
 use Rattle.state.specs.declared.Queued.{Queued}
@@ -18,21 +17,20 @@ use Rattle.fit.specs.Refusals.{longFrame}
 use Rattle.turns.specs.World.{Held, World, onHeld}
 use Rattle.waiting.specs.Batch.{steps}
 use Rattle.waiting.specs.Waiting.{takeStep}
-use Rattle.starts.specs.Start.{ends}
 use Rattle.keeps.proofs.Turns.{of-fit}
 use Rattle.calls.specs.Outcome.{Outcome, done}
 use Rattle.batch.proofs.CallLaws.{passed-batch}
 use Rattle.fragments.specs.Fragment as link
 use Rattle.trails.specs.Calls.{Call, batch, timer, connected, disconnected, advertising, scanResponse, fragment, reads, does, left, run, gateOf, done?}
 use Rattle.trails.specs.Trail.{Pass, begins, goes, final}
-use Rattle.trails.specs.Log.{roomFor, takesIn, taken, givenBy}
+use Rattle.trails.specs.Log.{roomFor, takesIn, taken}
 use Rattle.trails.proofs.Ends.{refusedOf, does-law}
 use Rattle.trails.proofs.Hops.{Hop, ended, began, meets, parts, still, acted, Hops, none, more}
 use Rattle.trails.proofs.Goes.{good}
 use Rattle.books.proofs.Books.{Books}
 use Rattle.books.proofs.Accounting.{fresh, books-fresh, books-call}
 use Rattle.tallies.specs.Tally.{handed, handsIn, handedIn, noticed, noticedAlong, noticedBy, notices}
-use Rattle.tallies.proofs.Kept.{Kept, kept-none, kept-then, kept-ends, kept-take, kept-start}
+use Rattle.tallies.proofs.Kept.{kept-none, kept-then, kept-ends, kept-take, kept-start}
 use Rattle.tallies.proofs.Channels.{Moves, of-kept, moves-then, moves-channel}
 use Rattle.tallies.proofs.Pushed.{Pushed, pushed-all}
 

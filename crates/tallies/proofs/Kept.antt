@@ -37,7 +37,7 @@ use Rattle.starts.specs.declared.Alone.the-variants as alone
 use Rattle.starts.specs.declared.Awaited.{Awaited}
 use Rattle.starts.specs.declared.Awaited.the-variants as awaited-variants
 use Rattle.starts.specs.Wait.{waitPasses, passed, checkOne, awaited, checkFor, checkWait}
-use Rattle.starts.specs.Start.{ends, waitsFor, unlinkedStep, startAlone, startUnlinked, forgotten, discoverIn, subscribeAt, subscribe, commanded, write, read, terminated, asksTo, disconnect, named, startLinked, start}
+use Rattle.starts.specs.Start.{ends, waitsFor, unlinkedStep, startAlone, startUnlinked, forgotten, discoverIn, subscribeAt, subscribe, commanded, write, read, terminated, asksTo, disconnect, startLinked, start}
 
 pub record Kept (h g : Held) : Type 0 where
   pub notified : g .state .counters .notified ≡ h .state .counters .notified

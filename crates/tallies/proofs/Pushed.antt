@@ -1,6 +1,6 @@
 -- A batch goes in: its steps are taken in, or counted in refused_steps.
 use Prim.Native.Nat.{ℕ, zero, suc, _+_, _-_, _≤_, _<_}
-use mathlib.Core.Path.{_≡_, refl, sym, ap, _∙_}
+use mathlib.Core.Path.{_≡_, refl, ap, _∙_}
 use mathlib.Core.Bool.{Bool, true, false}
 use mathlib.Core.List.{List, [], _∷_, _++_}
 use native.Mathlib.Omega.{arith}
@@ -12,13 +12,13 @@ use Rattle.base.specs.Choice.{pick}
 use Rattle.base.specs.Splice.{splice}
 use Rattle.places.specs.Sizes.{mostSteps, waitingAt}
 use Rattle.queues.specs.QueueLaws.{length-onto}
-use Rattle.state.specs.Central.{Central, withQueue, withCounters}
+use Rattle.state.specs.Central.{withQueue, withCounters}
 use Rattle.state.specs.declared.Queue.{Queue}
 use Rattle.state.specs.declared.Queued.{Queued}
 use Rattle.turns.specs.World.{Held}
 use Rattle.waiting.specs.declared.Placed.{Placed}
 use Rattle.waiting.specs.Batch.{valueLen, queued}
-use Rattle.waiting.specs.Waiting.{live, queueing, refusing, pushOne, pushAll}
+use Rattle.waiting.specs.Waiting.{waiting, queueing, refusing, pushOne, pushAll}
 use Rattle.trails.specs.Log.{queuedAll}
 
 -- one step: x is whether it has a place
@@ -41,10 +41,10 @@ pushed-one h values p cells few = go (ltb n mostSteps) refl
     n = q .count
 
     l : List Queued
-    l = live q ++ (queued p ∷ [])
+    l = waiting q ++ (queued p ∷ [])
 
     long : length l ≡ n + 1
-    long = length-append (live q) (queued p ∷ []) ∙ omega (arith, length-take-le n (q .kept) (omega (arith, few, cells)))
+    long = length-append (waiting q) (queued p ∷ []) ∙ omega (arith, length-take-le n (q .kept) (omega (arith, few, cells)))
 
     yes : Held
     yes = record { state = withQueue (h .state) (queueing q l); store = splice (h .store) (waitingAt n) values (p .place) (valueLen p) }

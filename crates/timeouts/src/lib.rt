@@ -24,36 +24,10 @@ pub fn is_due(r: Running, at: Micros) -> bool
 fn timed_out(step: Step) -> StepStatus
     ensures { λ r. ⌜ r ≡ timedOut step ⌝ }
 {
-    match step {
-        Step::Scan { ms: _ } => StepStatus::Ok,
-        Step::Connect {
-            target: _,
-            interval: _,
-            latency: _,
-            timeout: _,
-            within_ms: _,
-        } => StepStatus::Timeout,
-        Step::ExchangeMtu { mtu: _ } => StepStatus::Timeout,
-        Step::DiscoverServices => StepStatus::Timeout,
-        Step::DiscoverCharacteristics { service: _ } => StepStatus::Timeout,
-        Step::Subscribe {
-            characteristic: _,
-            indicate: _,
-        } => StepStatus::Timeout,
-        Step::Write {
-            characteristic: _,
-            with_response: _,
-        } => StepStatus::Timeout,
-        Step::Read { characteristic: _ } => StepStatus::Timeout,
-        Step::WaitNotification {
-            characteristic: _,
-            within_ms: _,
-        } => StepStatus::Timeout,
-        Step::Wait { ms: _ } => StepStatus::Ok,
-        Step::Disconnect => StepStatus::Timeout,
-        Step::Capture { enabled: _ } => StepStatus::Timeout,
-        Step::CaptureSecrets { secrets: _ } => StepStatus::Timeout,
+    if kinds::is_kind(step, kinds::SCAN) | kinds::is_kind(step, kinds::WAIT) {
+        return StepStatus::Ok;
     }
+    StepStatus::Timeout
 }
 
 // The running step ends, as one that is due.

@@ -5,7 +5,6 @@ ghost use lib.ListN.{length};
 use crate::record;
 use crate::record::Bad;
 use crate::record::Shape;
-use lines::kinds;
 use state::Address;
 use state::Step;
 use state::Target;

@@ -8,15 +8,15 @@ use lib.Dec.{eqb, ltb}
 use borrow.Author.Tests.{eqb-true}
 use Rattle.base.specs.Choice.{pick}
 use Rattle.time.specs.declared.Micros.{Micros}
-use Rattle.state.specs.Central.{Central, withBearer}
+use Rattle.state.specs.Central.{Central}
 use Rattle.state.specs.declared.StepStatus.the-variants.{Ok}
-use Rattle.fit.specs.Refusals.{accepted, longFrame}
+use Rattle.fit.specs.Refusals.{accepted}
 use Rattle.turns.specs.World.{Held, World, onHeld, onState}
 use Rattle.starts.specs.Start.{ends}
 use Rattle.script.specs.Script.{canGo, stepOnce, advances, advance, advanceUnlinked}
-use Rattle.calls.specs.Outcome.{Outcome, Quiet, done, refused, quietly, quietlyRefused}
+use Rattle.calls.specs.Outcome.{Outcome, done, refused, quietly, quietlyRefused}
 use Rattle.batch.specs.Batch.{pushSteps}
-use Rattle.events.specs.Events.{timedOut, due, expire, onTimer, linked, isConnect, greeted, connect, onConnected, unlinked, goesOn, cutStatus, cutOff, lose, onDisconnected}
+use Rattle.events.specs.Events.{timedOut, due, expire, onTimer, isConnect, connect, onConnected, goesOn, cutStatus, cutOff, lose, onDisconnected}
 use Rattle.hearing.specs.Hearing as radio
 use Rattle.fragments.specs.Fragment.{dropped, withHeld, gathered, frameLength, frameChannel, whole, refusing}
 use Rattle.rules.specs.Link.{frameRead, gather, hear, onFragment}
@@ -29,9 +29,9 @@ use Rattle.reports.specs.Reports.{heardAgain, againStore, heardFirst, firstStor
 use Rattle.reports.specs.Key.{key}
 use Rattle.matching.specs.Matching.{listens}
 use Rattle.calls.specs.Outcome.{unsent}
-use Rattle.trails.specs.Calls.{Call, batch, timer, connected, disconnected, advertising, scanResponse, fragment, reads, blank, outOf, ofQuiet, ofRadio, unread, does, left, run, gateOf, done?}
-use Rattle.trails.specs.Trail.{Pass, pass, final, onwards, onward, thenOnward, timerTrail, met, connectedTrail, parted, disconnectedTrail, cameOn, fragmentTrail, begins, goes}
-use Rattle.trails.proofs.Unlinked.{present, present-finish, advance-unlinked}
+use Rattle.trails.specs.Calls.{Call, batch, timer, connected, disconnected, advertising, scanResponse, fragment, reads, blank, ofQuiet, ofRadio, does, gateOf, done?}
+use Rattle.trails.specs.Trail.{pass, final, onwards, onward, thenOnward, timerTrail, met, connectedTrail, parted, disconnectedTrail, cameOn, fragmentTrail, begins, goes}
+use Rattle.trails.proofs.Unlinked.{present-finish, advance-unlinked}
 
 -- ---- the last world of each trail
 

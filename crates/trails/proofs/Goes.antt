@@ -1,14 +1,13 @@
 -- The trail of every call that is not refused is made of hops, and begins where a call may begin.
-use Prim.Native.Nat.{ℕ, zero, suc, _+_, _≤_, _<_}
-use mathlib.Core.Path.{_≡_, refl, sym, ap, _∙_, subst}
+use Prim.Native.Nat.{ℕ, _+_, _≤_, _<_}
+use mathlib.Core.Path.{_≡_, refl, sym, ap, _∙_}
 use mathlib.Core.Bool.{Bool, true, false, _&&_, false≢true}
 use mathlib.Core.List.{List, [], _∷_}
 use native.Mathlib.Omega.{arith}
-use lib.ListN.{length, replicate, length-replicate}
+use lib.ListN.{length, length-replicate}
 use lib.Dec.{eqb, ltb}
 use borrow.Author.Tests.{eqb-true}
 use Rattle.base.specs.Choice.{pick}
-use Rattle.base.specs.Splice.{splice}
 use Rattle.places.specs.Sizes.{mostKeys, storeSize, outputSize, mostResults, resultSize, resultAt, heldAt, frameSize, reportAt, responseAt}
 use Rattle.queues.specs.Blocks.{bytes}
 use Rattle.queues.specs.BlockLaws.{bytes-below, stored-below}
@@ -25,14 +24,12 @@ use Rattle.state.specs.declared.StepStatus.the-variants.{Ok, Timeout, Disconnec
 use Rattle.state.specs.declared.LinkRequest.the-variants.{Nothing}
 use Rattle.fit.specs.Refusals.{accepted, keysFull}
 use Rattle.fit.specs.Facts.{Fit}
-use Rattle.fit.specs.Gate.{gate, gateQuiet, gateReader}
+use Rattle.fit.specs.Gate.{gate, gateQuiet}
 use Rattle.fit.specs.GateLaws.{passed, passed-quiet, passed-reader}
 use Rattle.turns.specs.World.{Held, World, onHeld, onState}
 use Rattle.starts.specs.Start.{ends}
-use Rattle.keeps.specs.Nearly.{Nearly}
 use Rattle.keeps.specs.Sound.{Sound}
 use Rattle.keeps.proofs.Turns.{Stays, of-fit}
-use Rattle.script.specs.Script.{canGo}
 use Rattle.calls.proofs.BeginLaws.{begins-sound, sound-stays, may-begin}
 use Rattle.batch.proofs.CallLaws.{passed-batch, pushed-sound}
 use Rattle.events.specs.Events.{timedOut, due, isConnect, goesOn, cutStatus}
@@ -42,15 +39,15 @@ use Rattle.hearing.specs.HearingLaws as radio-laws
 use Rattle.reports.specs.Reports.{reportPart, heardAgain, againStore, heardFirst, firstStore, lastPlace, placeOf}
 use Rattle.reports.specs.Key.{key}
 use Rattle.matching.specs.Matching.{listens}
-use Rattle.frames.specs.Payload.{payload, payloadSize}
+use Rattle.frames.specs.Payload.{payload}
 use Rattle.rules.specs.Channel.{onChannel}
 use Rattle.holds.proofs.Channel.{sound-channel}
 use Rattle.fragments.specs.Fragment.{withHeld, dropped, heldBefore, gathered, frameLength, frameChannel, whole}
 use Rattle.fragments.proofs.FragmentLaws.{PassedFragment, passed-fragment}
 use Rattle.rules.proofs.KeepLaws.{comes-linked, whole-short, stays-held, stays-gathered}
 use Rattle.trails.specs.Calls.{Call, batch, timer, connected, disconnected, advertising, scanResponse, fragment, reads, blank, gateOf, done?}
-use Rattle.trails.specs.Trail.{Pass, pass, met, parted, thenOnward, onward, cameOn, timerTrail, connectedTrail, disconnectedTrail, fragmentTrail, begins, goes}
-use Rattle.trails.proofs.Hops.{Sizes, NoRead, Still, Open, Hop, ended, began, meets, parts, still, acted, Hops, none, more, onward-hops}
+use Rattle.trails.specs.Trail.{pass, met, parted, thenOnward, onward, cameOn, timerTrail, connectedTrail, disconnectedTrail, fragmentTrail, begins, goes}
+use Rattle.trails.proofs.Hops.{Sizes, Still, Open, ended, meets, parts, still, acted, Hops, none, more, onward-hops}
 
 -- what a call that is not refused begins with, and goes through
 pub record Good (h : Held) (c : Call) : Type 0 where

@@ -1,9 +1,8 @@
 -- The hops of which every trail is made.
 use Prim.Native.Nat.{ℕ, zero, suc, _+_, _≤_, _<_}
-use mathlib.Core.Path.{_≡_, refl, sym, ap, _∙_, subst}
-use mathlib.Core.Bool.{Bool, true, false, false≢true}
+use mathlib.Core.Path.{_≡_, refl}
+use mathlib.Core.Bool.{Bool, true, false}
 use mathlib.Core.List.{List, [], _∷_}
-use native.Mathlib.Omega.{arith}
 use lib.ListN.{length}
 use Rattle.base.specs.Choice.{pick}
 use Rattle.queues.specs.Blocks.{bytes}
@@ -12,20 +11,19 @@ use Rattle.time.specs.declared.Micros.{Micros}
 use Rattle.time.specs.Clock.{latest}
 use Rattle.uuid.specs.declared.Uuid.{Uuid}
 use Rattle.state.specs.Central.{Central}
-use Rattle.state.specs.declared.Step.{Step}
 use Rattle.state.specs.declared.Step.the-variants.{Read}
 use Rattle.state.specs.declared.StepStatus.{StepStatus}
 use Rattle.state.specs.declared.StepStatus.the-variants.{Ok}
 use Rattle.fit.specs.Fit.{mostNotified}
-use Rattle.turns.specs.World.{Held, World, onHeld, onState}
-use Rattle.reports.specs.ReportLaws.{Whole}
+use Rattle.turns.specs.World.{Held, World, onHeld}
+use Rattle.reports.specs.Whole.{Whole}
 use Rattle.starts.specs.Start.{ends}
 use Rattle.keeps.specs.Nearly.{Nearly}
 use Rattle.keeps.specs.Sound.{Sound}
 use Rattle.script.specs.Script.{canGo, stepOnce}
 use Rattle.frames.specs.Payload.{payload, payloadSize}
 use Rattle.rules.specs.Channel.{onChannel}
-use Rattle.trails.specs.Trail.{News, link-came, link-went, att-heard, Pass, pass, final, met, parted, cameOn, onwards, onward}
+use Rattle.trails.specs.Trail.{link-came, link-went, Pass, pass, met, parted, cameOn, onwards, onward}
 
 -- the arrays have the sizes that their types give them (definitions speak of lists of any length)
 pub record Sizes (c : Central) : Type 0 where

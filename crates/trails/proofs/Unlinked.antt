@@ -1,17 +1,16 @@
 -- With no link the script goes on as it does where nothing can go out.
 use Prim.Native.Nat.{ℕ, zero, suc}
-use mathlib.Core.Path.{_≡_, refl, sym, ap, _∙_}
+use mathlib.Core.Path.{_≡_, refl, ap, _∙_}
 use mathlib.Core.Bool.{Bool, true, false}
 use Rattle.base.specs.Choice.{pick}
 use Rattle.places.specs.Sizes.{heldAt}
 use Rattle.time.specs.declared.Micros.{Micros}
-use Rattle.state.specs.declared.Step.{Step}
 use Rattle.state.specs.declared.StepStatus.{StepStatus}
 use Rattle.turns.specs.World.{Held, World, onHeld}
 use Rattle.turns.specs.Finish.{ended, finish}
 use Rattle.starts.specs.declared.Alone.{Alone}
 use Rattle.starts.specs.declared.Alone.the-variants as alone
-use Rattle.starts.specs.Start.{ends, unlinkedStep, startAlone, startUnlinked, startLinked, start}
+use Rattle.starts.specs.Start.{unlinkedStep, startAlone, startUnlinked, startLinked, start}
 use Rattle.waiting.specs.Waiting.{takeStep}
 use Rattle.script.specs.Script.{canGo, stepOnce, advances, advance, stepUnlinked, advancesUnlinked, advanceUnlinked}
 

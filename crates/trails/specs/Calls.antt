@@ -1,13 +1,11 @@
 -- The ten calls of 01, and sequences of them. The right sides of `does` are those of the calls' contracts.
 use Prim.Native.Nat.{ℕ}
-use mathlib.Core.Bool.{Bool, true, false}
+use mathlib.Core.Bool.{Bool}
 use mathlib.Core.List.{List, [], _∷_}
 use lib.ListN.{length, replicate}
 use lib.Dec.{eqb}
-use Rattle.base.specs.Choice.{pick}
 use Rattle.places.specs.Sizes.{outputSize}
 use Rattle.time.specs.declared.Micros.{Micros}
-use Rattle.state.specs.Central.{Central}
 use Rattle.state.specs.declared.Address.{Address}
 use Rattle.fit.specs.Refusals.{accepted}
 use Rattle.fit.specs.Gate.{gate, gateQuiet, gateReader}

@@ -1,6 +1,5 @@
 -- Steps taken in and results given, over every sequence of calls: an honest log, read off the worlds that the calls pass through.
 use Prim.Native.Nat.{ℕ, suc, _-_}
-use mathlib.Core.Bool.{Bool, true, false}
 use mathlib.Core.List.{List, [], _∷_, _++_}
 use lib.ListN.{take}
 use lib.Dec.{leb}

@@ -1,13 +1,13 @@
 -- The trail of a call: each world that it passes through, one hop at a time. In a hop at most one step ends, at most one begins, and at
 -- most one frame goes out; every log of the promises is read off two neighbouring worlds.
 use Prim.Native.Nat.{ℕ, zero, suc}
-use mathlib.Core.Bool.{Bool, true, false, not, _&&_}
+use mathlib.Core.Bool.{Bool}
 use mathlib.Core.List.{List, [], _∷_}
 use lib.Dec.{eqb}
 use Rattle.base.specs.Choice.{pick}
 use Rattle.time.specs.declared.Micros.{Micros}
 use Rattle.wire.specs.Numbers.{cidAtt}
-use Rattle.state.specs.Central.{Central, withBearer}
+use Rattle.state.specs.Central.{withBearer}
 use Rattle.state.specs.declared.StepStatus.the-variants.{Ok}
 use Rattle.turns.specs.World.{Held, World, onHeld, onState}
 use Rattle.starts.specs.Start.{ends}
@@ -20,7 +20,7 @@ use Rattle.hearing.specs.Hearing as radio
 use Rattle.frames.specs.Payload.{payload}
 use Rattle.rules.specs.Channel.{onChannel}
 use Rattle.fragments.specs.Fragment.{dropped, withHeld, gathered, frameLength, frameChannel, whole}
-use Rattle.trails.specs.Calls.{Call, batch, timer, connected, disconnected, advertising, scanResponse, fragment, reads, blank, outOf, does}
+use Rattle.trails.specs.Calls.{Call, batch, timer, connected, disconnected, advertising, scanResponse, fragment, reads, blank}
 
 -- what comes in from outside: a link by its handle, its loss, the payload of a frame on the attribute channel
 pub data News : Type 0 where

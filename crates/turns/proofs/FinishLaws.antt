@@ -1,12 +1,12 @@
 -- What each return of the functions on results asks, from what their callees ensure.
-use Prim.Native.Nat.{ℕ, _+_, _*_, _-_, _≤_, _<_}
-use mathlib.Core.Path.{_≡_, refl, sym, ap, _∙_}
-use mathlib.Core.Bool.{Bool, true, false}
+use Prim.Native.Nat.{ℕ, _+_, _-_, _≤_, _<_}
+use mathlib.Core.Path.{_≡_, ap, _∙_}
+use mathlib.Core.Bool.{true, false}
 use mathlib.Core.List.{List}
 use native.Mathlib.Omega.{arith}
 use lib.ListN.{length, take, set}
 use Rattle.base.specs.Splice.{moved}
-use Rattle.queues.specs.Queue.{pushed, onto, shifted}
+use Rattle.queues.specs.Queue.{pushed, shifted}
 use Rattle.queues.specs.QueueLaws.{set-room, count-room, set-full, count-full}
 use Rattle.queues.specs.Blocks.{stored, lowered}
 use Rattle.queues.specs.BlockLaws.{copied-room, copied-full, length-stored}
@@ -20,7 +20,7 @@ use Rattle.state.specs.declared.State.{State}
 use Rattle.state.specs.declared.StepResult.{StepResult}
 use Rattle.state.specs.declared.StepStatus.{StepStatus}
 use Rattle.state.specs.declared.Results.{Results}
-use Rattle.turns.specs.World.{Held, held}
+use Rattle.turns.specs.World.{held}
 use Rattle.turns.specs.Finish.{resultPart, kept, pushedResult, idle, answered, withLink, ended, finish}
 
 pub value-room : (s s' : List ℕ) (at count from n : ℕ) → at ≡ resultAt count → s' ≡ moved s at from n → count < mostResults → heldAt ≤ from

@@ -1,23 +1,22 @@
 -- Each thing that a call does keeps it ready.
-use Prim.Native.Nat.{ℕ, _+_, _*_, _≤_, _<_}
-use mathlib.Core.Path.{_≡_, refl, sym, ap, subst, _∙_}
+use Prim.Native.Nat.{ℕ, _+_, _≤_}
+use mathlib.Core.Path.{_≡_, _∙_}
 use mathlib.Core.Bool.{Bool, true, false}
 use mathlib.Core.List.{List}
 use native.Mathlib.Omega.{arith}
 use lib.ListN.{length}
 use Rattle.base.specs.Choice.{pick}
-use Rattle.queues.specs.Queue.{pushed}
 use Rattle.queues.specs.QueueLaws.{pushed-within}
 use Rattle.queues.specs.BlockLaws.{length-stored}
 use Rattle.wire.specs.Numbers.{cidAtt}
 use Rattle.wire.specs.FrameLaws.{framed-in}
-use Rattle.places.specs.Sizes.{storeSize, outputSize, frameSize, mostResults}
+use Rattle.places.specs.Sizes.{mostResults}
 use Rattle.time.specs.declared.Micros.{Micros}
 use Rattle.state.specs.Central.{Central}
 use Rattle.state.specs.declared.StepResult.{StepResult}
 use Rattle.state.specs.declared.StepStatus.{StepStatus}
 use Rattle.state.specs.declared.Results.{Results}
-use Rattle.turns.specs.World.{Held, Told, World, onHeld, onTold, onState}
+use Rattle.turns.specs.World.{Told, World, onHeld, onTold, onState}
 use Rattle.turns.specs.Finish.{resultPart, kept, pushedResult, ended, finish}
 use Rattle.turns.specs.Send.{Room, send, request}
 use Rattle.turns.specs.Ready.{Ready}

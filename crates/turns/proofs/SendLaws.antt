@@ -1,9 +1,9 @@
 -- What each return of the functions that send asks, from what their callees ensure.
-use Prim.Native.Nat.{ℕ, _+_, _≤_, _<_}
-use mathlib.Core.Path.{_≡_, refl, sym, ap, subst, _∙_}
-use mathlib.Core.List.{List, [], _∷_, _++_}
+use Prim.Native.Nat.{ℕ, _+_, _≤_}
+use mathlib.Core.Path.{_≡_, sym, ap, subst, _∙_}
+use mathlib.Core.List.{List}
 use native.Mathlib.Omega.{arith}
-use lib.ListN.{length, take, drop, getD}
+use lib.ListN.{length, getD}
 use Rattle.wire.specs.Numbers.{cidAtt}
 use Rattle.wire.specs.Frame.{Written, written, framed, attPdu, attFramed}
 use Rattle.wire.specs.FrameLaws.{framed-in, length-framed, att-framed-in, pdu-size}
@@ -16,7 +16,7 @@ use Rattle.state.specs.declared.Link.{Link}
 use Rattle.state.specs.declared.Sent.{Sent}
 use Rattle.state.specs.declared.State.{State}
 use Rattle.state.specs.declared.Turn.{Turn}
-use Rattle.turns.specs.World.{Held, Told, World, told, world}
+use Rattle.turns.specs.World.{Told, told, world}
 use Rattle.turns.specs.Finish.{withLink}
 use Rattle.turns.specs.Send.{Room, more, send, until, awaiting, asked, request}
 

@@ -1,14 +1,14 @@
 -- A step ends: its result is kept, with its value in the store (01, 'Sizes': 64 results, the oldest goes).
 use Prim.Native.Nat.{ℕ}
-use mathlib.Core.Bool.{Bool, true, false}
-use mathlib.Core.List.{List}
-use lib.ListN.{length, take}
+use mathlib.Core.Bool.{false}
+use lib.ListN.{length}
 use Rattle.base.specs.Choice.{pick}
 use Rattle.queues.specs.Queue.{pushed, onto}
 use Rattle.queues.specs.Blocks.{Part, stored}
 use Rattle.places.specs.Sizes.{mostResults, resultSize, resultAt}
 use Rattle.time.specs.declared.Micros.{Micros}
-use Rattle.state.specs.Central.{Central, withRunning, withBearer, withResults}
+use Rattle.state.specs.Central.{withRunning, withBearer, withResults}
+pub use Rattle.state.specs.Kept.{kept}
 use Rattle.state.specs.declared.Running.{Running}
 use Rattle.state.specs.declared.Link.{Link}
 use Rattle.state.specs.declared.Bearer.{Bearer}
@@ -16,15 +16,11 @@ use Rattle.state.specs.declared.StepResult.{StepResult}
 use Rattle.state.specs.declared.StepStatus.{StepStatus}
 use Rattle.state.specs.declared.Results.{Results}
 pub use Rattle.lent.specs.Record.{answered}
-use Rattle.turns.specs.World.{Held, onState}
+use Rattle.turns.specs.World.{Held}
 
 -- the results' part of the store
 abbrev pub resultPart : Part
 resultPart = record { base = resultAt 0; size = resultSize; most = mostResults }
-
--- the results that are kept, the oldest first
-abbrev pub kept : Results → List StepResult
-kept rs = take (rs .count) (rs .kept)
 
 -- one result more
 unfoldable pub pushedResult : Results → StepResult → Results

@@ -1,5 +1,5 @@
 -- What a call has in hand while it works: the sizes of what is lent, and room for the frames that it may yet send.
-use Prim.Native.Nat.{ℕ, _+_, _*_, _≤_}
+use Prim.Native.Nat.{ℕ, _*_, _≤_}
 use mathlib.Core.Path.{_≡_}
 use lib.ListN.{length}
 use Rattle.places.specs.Sizes.{storeSize, outputSize, frameSize, mostResults}

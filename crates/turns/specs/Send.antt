@@ -1,8 +1,8 @@
 -- A frame goes out behind those before it; a request is awaited from then on, and has the ATT timeout (Core Vol 3 Part F 3.3.3).
 use Prim.Native.Nat.{ℕ, _+_, _≤_}
-use mathlib.Core.Bool.{Bool, true, false}
+use mathlib.Core.Bool.{true}
 use mathlib.Core.List.{List}
-use lib.ListN.{length, getD}
+use lib.ListN.{getD}
 use Rattle.time.specs.declared.Micros.{Micros}
 use Rattle.time.specs.Clock.{attDeadline}
 use Rattle.wire.specs.Numbers.{cidAtt}
@@ -11,7 +11,7 @@ use Rattle.state.specs.Central.{Central, withRunning, withBearer}
 use Rattle.state.specs.declared.Running.{Running}
 use Rattle.state.specs.declared.Sent.{Sent}
 pub use Rattle.lent.specs.Record.{awaiting}
-use Rattle.turns.specs.World.{Held, Told, World, onHeld, onTold, onState}
+use Rattle.turns.specs.World.{Told, World, onState}
 use Rattle.turns.specs.Finish.{withLink}
 
 -- room for a frame of n bytes of payload: at most 64 frames went before it

@@ -15,7 +15,8 @@ use uuid::Uuid;
 pub fn report(s: State, store: &[u8], i: usize) -> Seen
     ensures { λ r. ⌜ r ≡ view (central s) (length (now (store .entry))) i ⌝ }
 {
-    sights::see(s, store.len(), i)
+    let size = store.len();
+    sights::see(s, size, i)
 }
 
 // The advertising data of report i, or no bytes.

@@ -1,6 +1,5 @@
 -- A batch of steps (01, refusal 4): at most 64, each with its value at a place of lent bytes.
 use Prim.Native.Nat.{ℕ}
-use mathlib.Core.Bool.{Bool, true, false}
 use mathlib.Core.List.{List}
 use lib.ListN.{take}
 use Rattle.base.specs.Choice.{pick}

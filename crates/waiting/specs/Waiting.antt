@@ -1,14 +1,15 @@
 -- The waiting steps (01, 'Sizes': 64, beyond them counted in refused_steps), the next one first, each with its value in the store.
-use Prim.Native.Nat.{ℕ, _+_, _-_, _*_}
-use mathlib.Core.Bool.{Bool, true, false}
+use Prim.Native.Nat.{ℕ, _+_, _*_}
+use mathlib.Core.Bool.{true, false}
 use mathlib.Core.List.{List, [], _∷_, _++_}
-use lib.ListN.{length, take, drop, getD}
+use lib.ListN.{length, drop, getD}
 use lib.Dec.{ltb}
 use Rattle.base.specs.Choice.{pick}
 use Rattle.base.specs.Splice.{splice, moved}
 use Rattle.queues.specs.Queue.{onto}
 use Rattle.places.specs.Sizes.{mostSteps, valueSize, runningAt, waitingAt}
-use Rattle.state.specs.Central.{Central, withCounters, withQueue}
+use Rattle.state.specs.Central.{withCounters, withQueue}
+pub use Rattle.state.specs.Kept.{waiting}
 use Rattle.state.specs.Fresh.{noQueued}
 use Rattle.state.specs.declared.Queued.{Queued}
 use Rattle.state.specs.declared.Queue.{Queue}
@@ -18,10 +19,6 @@ use Rattle.state.specs.declared.Running.{Running}
 use Rattle.turns.specs.World.{Held}
 use Rattle.waiting.specs.declared.Placed.{Placed}
 use Rattle.waiting.specs.Batch.{valueLen, queued}
-
--- the steps that wait
-abbrev pub live : Queue → List Queued
-live q = take (q .count) (q .kept)
 
 -- the queue with other steps in it; a place that is not live stays as it is
 abbrev pub queueing : Queue → List Queued → Queue
@@ -38,7 +35,7 @@ pushOne h values p =
     let c = h .state in
     pick (ltb (c .queue .count) mostSteps)
     (record {
-      state = withQueue c (queueing (c .queue) (live (c .queue) ++ (queued p ∷ [])));
+      state = withQueue c (queueing (c .queue) (waiting (c .queue) ++ (queued p ∷ [])));
       store = splice (h .store) (waitingAt (c .queue .count)) values (p .place) (valueLen p);
     })
     (record { state = withCounters c (refusing (c .counters)); store = h .store })
@@ -68,7 +65,7 @@ takeStep h =
     record {
       state = record {
         counters = counted (c .counters);
-        queue = queueing (c .queue) (drop 1 (live (c .queue)));
+        queue = queueing (c .queue) (drop 1 (waiting (c .queue)));
         running = begun (getD (c .queue .kept) 0 noQueued) (c .counters .«next_index»);
         keys = unasked (c .keys);
         results = c .results;

@@ -1,15 +1,14 @@
 // The waiting steps: a batch goes in, the first comes out and runs.
 ghost use mathlib.Core.Path.{_≡_};
 ghost use mathlib.Core.Bool.{true};
-ghost use mathlib.Core.List.{List, _∷_, [], _++_};
+ghost use mathlib.Core.List.{_∷_, [], _++_};
 ghost use Prim.Native.Nat.{_+_, _-_, _≤_, _<_};
-ghost use lib.ListN.{length, take, drop};
-ghost use Rattle.places.specs.Sizes.{storeSize, mostSteps, valueSize};
+ghost use lib.ListN.{drop};
+ghost use Rattle.places.specs.Sizes.{mostSteps, valueSize};
 ghost use Rattle.queues.specs.Queue.{shifted};
-ghost use Rattle.state.specs.Central.{central};
 ghost use Rattle.turns.specs.World.{held};
-ghost use Rattle.waiting.specs.Batch.{valueLen, steps, queued};
-ghost use Rattle.waiting.specs.Waiting.{live, queueing, refusing, pushOne, pushAll, begun, counted, unasked, takeStep};
+ghost use Rattle.waiting.specs.Batch.{valueLen, steps};
+ghost use Rattle.waiting.specs.Waiting.{waiting, queueing, refusing, pushOne, begun, counted, unasked, takeStep};
 use state::Counters;
 use state::Keys;
 use state::Queue;
@@ -39,7 +38,7 @@ fn value_len(p: Placed) -> usize
     ensures { λ r. ⌜ r ≡ valueLen p ⌝ }
 {
     let step = p.step;
-    if fit::carries(step) {
+    if kinds::carries(step) {
         return p.len;
     }
     0
@@ -47,7 +46,7 @@ fn value_len(p: Placed) -> usize
 
 fn join(q: Queue, x: Queued) -> Queue
     requires { ⌜ q .count < mostSteps ⌝ }
-    ensures { λ r. ⌜ r ≡ queueing q (live q ++ (x ∷ [])) ⌝ }
+    ensures { λ r. ⌜ r ≡ queueing q (waiting q ++ (x ∷ [])) ⌝ }
 {
     let count = q.count;
     let mut a = q.kept;
@@ -108,7 +107,7 @@ fn shift(kept: [Queued; 64], count: usize) -> [Queued; 64]
 
 fn rest(q: Queue) -> Queue
     requires { ⌜ (0 < q .count) × (q .count ≤ mostSteps) ⌝ }
-    ensures { λ r. ⌜ r ≡ queueing q (drop 1 (live q)) ⌝ }
+    ensures { λ r. ⌜ r ≡ queueing q (drop 1 (waiting q)) ⌝ }
 {
     let count = q.count;
     let kept = q.kept;

@@ -2,7 +2,7 @@ use lib.ListN.{length-map}
 use Rattle.batch.proofs.PushLaws.{Pushing, pushing-start, pushing-on, pushing-end, may-push}
 use Rattle.turns.specs.World.{held}
 use native.Mathlib.Omega.{arith}
-use Prim.Native.Nat.{ℕ, _≤_, _-_}
+use Prim.Native.Nat.{_-_}
 use Rattle.batch.proofs.push_all.Statement.{statement}
 use Rattle.batch.proofs.push_all.Tie as tie
 use Rattle.batch.proofs.push_all.Reads as reads

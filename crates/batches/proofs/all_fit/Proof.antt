@@ -7,7 +7,7 @@ use borrow.Author.Tests.{not-true, not-false}
 use lib.ListN.{length, take, drop}
 use native.Mathlib.Omega.{arith}
 use mathlib.Core.Path.{_≡_, refl, sym, _∙_}
-use Prim.Native.Nat.{ℕ, _≤_, _-_}
+use Prim.Native.Nat.{_≤_, _-_}
 use Rattle.batches.proofs.all_fit.Statement.{statement}
 use Rattle.batches.proofs.all_fit.Tie as tie
 use Rattle.batches.proofs.all_fit.Reads as reads

@@ -4,7 +4,7 @@ use Rattle.batches.proofs.placed_fits.Statement.{statement}
 use Rattle.batches.proofs.placed_fits.Tie as tie
 use Rattle.batches.proofs.placed_fits.Reads as reads
 use Rattle.batches.proofs.placed_fits.Lts as lts
-use Rattle.fit.proofs.carries.Reads as carries-reads
+use Rattle.kinds.proofs.carries.Reads as carries-reads
 use Rattle.fit.proofs.step_fits.Reads as step-fits-reads
 
 -- src/lib.rt:33:9

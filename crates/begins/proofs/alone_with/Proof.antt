@@ -1,8 +1,5 @@
 use Rattle.starts.specs.Start.{unlinkedStep}
-use lib.ListN.{length}
-use mathlib.Core.Path.{_≡_, ap, sym, _∙_}
-use native.Mathlib.Omega.{arith}
-use Rattle.starts.proofs.StartLaws.{waits-law, alone-runs, alone-done, alone-needs, lifted, mtu-law, less-room, forget-law, services-law, same-sent, service-known, service-unknown, already, asks-to-end}
+use mathlib.Core.Path.{ap, sym}
 use borrow.Author.Needs.{needs}
 use Rattle.begins.proofs.alone_with.Statement.{statement}
 use Rattle.begins.proofs.alone_with.Tie as tie

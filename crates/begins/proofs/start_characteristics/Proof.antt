@@ -1,8 +1,6 @@
 use Rattle.turns.proofs.ReadyLaws.{ready-room}
-use lib.ListN.{length}
-use mathlib.Core.Path.{_≡_, ap, sym, _∙_}
 use native.Mathlib.Omega.{arith}
-use Rattle.starts.proofs.StartLaws.{waits-law, alone-runs, alone-done, alone-needs, lifted, mtu-law, less-room, forget-law, services-law, same-sent, service-known, service-unknown, already, asks-to-end}
+use Rattle.starts.proofs.StartLaws.{service-known, service-unknown}
 use borrow.Author.Needs.{needs}
 use Rattle.begins.proofs.start_characteristics.Statement.{statement}
 use Rattle.begins.proofs.start_characteristics.Tie as tie

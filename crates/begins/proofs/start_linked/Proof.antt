@@ -1,8 +1,8 @@
-use mathlib.Core.Path.{_≡_, ap, sym, _∙_}
+use mathlib.Core.Path.{_∙_}
 use native.Mathlib.Omega.{arith}
 use Rattle.starts.specs.Wait.{fit-looks}
 use Rattle.turns.proofs.ReadyLaws.{ready-room}
-use Rattle.starts.proofs.BeginLaws.{begin-scan, begin-connect, begin-mtu, begin-services, begin-characteristics, begin-subscribe, begin-write, begin-read, begin-notification, begin-wait, begin-disconnect, begin-capture, begin-secrets, write-fits, carried-fits, start-with, start-without}
+use Rattle.starts.proofs.BeginLaws.{begin-scan, begin-connect, begin-mtu, begin-services, begin-characteristics, begin-subscribe, begin-write, begin-read, begin-notification, begin-wait, begin-disconnect, begin-capture, begin-secrets, write-fits}
 use borrow.Author.Needs.{needs}
 use Rattle.begins.proofs.start_linked.Statement.{statement}
 use Rattle.begins.proofs.start_linked.Tie as tie

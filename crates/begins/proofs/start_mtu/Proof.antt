@@ -1,8 +1,8 @@
 use Rattle.att_pdu.specs.PduLaws.{length-exchangeMtuReq}
 use lib.ListN.{length}
-use mathlib.Core.Path.{_≡_, ap, sym, _∙_}
+use mathlib.Core.Path.{ap, _∙_}
 use native.Mathlib.Omega.{arith}
-use Rattle.starts.proofs.StartLaws.{waits-law, alone-runs, alone-done, alone-needs, lifted, mtu-law, less-room, forget-law, services-law, same-sent, service-known, service-unknown, already, asks-to-end}
+use Rattle.starts.proofs.StartLaws.{mtu-law, less-room}
 use borrow.Author.Needs.{needs}
 use Rattle.begins.proofs.start_mtu.Statement.{statement}
 use Rattle.begins.proofs.start_mtu.Tie as tie

@@ -1,6 +1,4 @@
-use mathlib.Core.Path.{_≡_, ap, sym, _∙_}
-use native.Mathlib.Omega.{arith}
-use Rattle.starts.proofs.CheckLaws.{passes-law, may-look, few-kept, results-stay, check-passed, check-not, none-named, one-named, check-idle, check-other, check-named-law}
+use Rattle.starts.proofs.CheckLaws.{results-stay, check-passed, check-not}
 use borrow.Author.Needs.{needs}
 use Rattle.checks.proofs.check_known.Statement.{statement}
 use Rattle.checks.proofs.check_known.Tie as tie

@@ -1,8 +1,7 @@
 use borrow.Author.Needs.{needs}
-use native.Mathlib.Omega.{arith}
 use lib.ListN.{length}
 use mathlib.Core.Path.{_≡_}
-use Prim.Native.Nat.{_≤_, _-_}
+use Prim.Native.Nat.{_-_}
 use Rattle.dumps.proofs.tell_keys.Statement.{statement}
 use Rattle.dumps.proofs.tell_keys.Tie as tie
 use Rattle.dumps.proofs.tell_keys.Reads as reads

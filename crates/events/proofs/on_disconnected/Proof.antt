@@ -8,7 +8,7 @@ use Rattle.events.proofs.on_disconnected.Reads as reads
 use Rattle.events.proofs.on_disconnected.Lts as lts
 use Rattle.calls.proofs.done_quietly.Reads as done-quietly-reads
 use Rattle.calls.proofs.refuse_quietly.Reads as refuse-quietly-reads
-use Rattle.events.proofs.lose.Reads as lose-reads
+use Rattle.comings.proofs.lose.Reads as lose-reads
 use Rattle.fit.proofs.gate_quiet.Reads as gate-quiet-reads
 
 -- src/lib.rt:301:9

@@ -9,7 +9,7 @@ use Rattle.events.proofs.on_timer.Lts as lts
 use Rattle.calls.proofs.begin.Reads as begin-reads
 use Rattle.calls.proofs.done.Reads as done-reads
 use Rattle.calls.proofs.refuse.Reads as refuse-reads
-use Rattle.events.proofs.expire.Reads as expire-reads
+use Rattle.comings.proofs.expire.Reads as expire-reads
 use Rattle.fit.proofs.gate.Reads as gate-reads
 
 -- src/lib.rt:90:9

@@ -4,7 +4,7 @@ use Rattle.fit.proofs.bearer_fits.Statement.{statement}
 use Rattle.fit.proofs.bearer_fits.Tie as tie
 use Rattle.fit.proofs.bearer_fits.Reads as reads
 use Rattle.fit.proofs.bearer_fits.Lts as lts
-use Rattle.fit.proofs.is_att.Reads as is-att-reads
+use Rattle.kinds.proofs.is_att.Reads as is-att-reads
 use Rattle.fit.proofs.is_request.Reads as is-request-reads
 
 -- src/lib.rt:302:35

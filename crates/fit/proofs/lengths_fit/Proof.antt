@@ -1,12 +1,11 @@
 use Rattle.fit.proofs.ScanLaws.{lengths-start, lengths-on, lengths-end}
 use Rattle.fit.specs.Fit.{lengthsFit}
 use mathlib.Core.Bool.{_&&_}
-use borrow.Author.Tests.{le-leb, lt-leb}
 use borrow.Author.Needs.{needs}
 use lib.Dec.{leb}
-use lib.ListN.{length, take, drop, getD}
+use lib.ListN.{length, take, drop}
 use native.Mathlib.Omega.{arith}
-use mathlib.Core.Path.{_≡_, refl, sym, _∙_}
+use mathlib.Core.Path.{_≡_, sym, _∙_}
 use Prim.Native.Nat.{_≤_, _-_}
 use Rattle.fit.proofs.lengths_fit.Statement.{statement}
 use Rattle.fit.proofs.lengths_fit.Tie as tie

@@ -4,7 +4,7 @@ use Rattle.fit.proofs.step_fits.Statement.{statement}
 use Rattle.fit.proofs.step_fits.Tie as tie
 use Rattle.fit.proofs.step_fits.Reads as reads
 use Rattle.fit.proofs.step_fits.Lts as lts
-use Rattle.fit.proofs.carries.Reads as carries-reads
+use Rattle.kinds.proofs.carries.Reads as carries-reads
 use Rattle.fit.proofs.mtu_named.Reads as mtu-named-reads
 
 -- src/lib.rt:160:7

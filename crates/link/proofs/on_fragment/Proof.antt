@@ -9,7 +9,7 @@ use Rattle.calls.proofs.done.Reads as done-reads
 use Rattle.calls.proofs.refuse.Reads as refuse-reads
 use Rattle.fragments.proofs.gate_fragment.Reads as gate-fragment-reads
 use Rattle.fragments.proofs.refusing.Reads as refusing-reads
-use Rattle.link.proofs.hear.Reads as hear-reads
+use Rattle.channels.proofs.hear.Reads as hear-reads
 
 -- src/lib.rt:127:9
 gate-fragment-requires : tie.Need-gate-fragment-requires

@@ -4,12 +4,12 @@ use Rattle.matching.proofs.is_asking.Statement.{statement}
 use Rattle.matching.proofs.is_asking.Tie as tie
 use Rattle.matching.proofs.is_asking.Reads as reads
 use Rattle.matching.proofs.is_asking.Lts as lts
-use Rattle.matching.proofs.is_scan.Reads as is-scan-reads
+use Rattle.kinds.proofs.is_kind.Reads as is-kind-reads
 use Rattle.matching.proofs.is_scannable.Reads as is-scannable-reads
 
 -- src/lib.rt:133:16
-is-scan-requires : tie.Need-is-scan-requires
-is-scan-requires c κs = search needs
+is-kind-requires : tie.Need-is-kind-requires
+is-kind-requires c κs = search needs
 
 -- src/lib.rt:133:32
 is-scannable-requires : tie.Need-is-scannable-requires
@@ -18,7 +18,7 @@ is-scannable-requires c κs = search needs
 -- src/lib.rt:129:1
 returns : tie.Need-returns
 unfolding asks
-returns c = rw (c .before .before .is-scan .ensures, c .is-scannable .ensures)
+returns c = rw (c .before .before .is-kind .ensures, c .is-scannable .ensures)
 
 pub is-asking-spec : {M : Type 1} → statement M
-is-asking-spec = tie.close (tie.spec is-scan-requires is-scannable-requires returns)
+is-asking-spec = tie.close (tie.spec is-kind-requires is-scannable-requires returns)

@@ -1,5 +1,4 @@
 use borrow.Author.Needs.{needs}
-use native.Mathlib.Omega.{arith}
 use Rattle.player.proofs.main.Statement.{statement}
 use Rattle.player.proofs.main.Tie as tie
 use Rattle.player.proofs.main.Reads as reads

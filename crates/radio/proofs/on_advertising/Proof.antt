@@ -1,7 +1,7 @@
 use Rattle.radio.specs.RadioLaws.{Going, told, unfit-law, looked, empty, fits-law, refused-law, open-law, quiet-law, full-law, key-place, put-asked, put-chosen, block-length}
 use Rattle.hearing.specs.HearingLaws.{Passed, passed}
 use Rattle.hearing.specs.Hearing.{thenData, adv}
-use Rattle.reports.specs.ReportLaws.{Whole}
+use Rattle.reports.specs.Whole.{Whole}
 use Rattle.fit.specs.FitLaws.{head-of, head-in, unfit, steps-none, results-none, rising-none, values-none}
 use Rattle.fit.specs.Fit.{fits}
 use Rattle.fit.specs.Gate.{gateQuiet}

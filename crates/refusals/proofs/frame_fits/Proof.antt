@@ -1,6 +1,5 @@
 use Rattle.base.proofs.TestLaws.{fits-less, fits-more}
 use Rattle.places.specs.Sizes.{frameSize}
-use borrow.Author.Needs.{needs}
 use Rattle.refusals.proofs.frame_fits.Statement.{statement}
 use Rattle.refusals.proofs.frame_fits.Tie as tie
 use Rattle.refusals.proofs.frame_fits.Reads as reads

@@ -1,9 +1,9 @@
 use Rattle.reports.specs.KeyLaws.{seek-here, seek-on, seek-end}
 use Rattle.reports.specs.Key.{seek}
-use lib.ListN.{length, take, drop, length-set}
+use lib.ListN.{length, take, drop}
 use native.Mathlib.Omega.{arith}
-use mathlib.Core.Path.{_≡_, refl, sym, ap, _∙_}
-use Prim.Native.Nat.{ℕ, _+_, _≤_, _-_}
+use mathlib.Core.Path.{_≡_, sym, _∙_}
+use Prim.Native.Nat.{_+_, _≤_, _-_}
 use Rattle.reports.proofs.find.Statement.{statement}
 use Rattle.reports.proofs.find.Tie as tie
 use Rattle.reports.proofs.find.Reads as reads

@@ -1,10 +1,10 @@
 use Rattle.reports.specs.KeyLaws.{among-here, among-on, among-end}
 use Rattle.reports.specs.Key.{among}
 use borrow.Author.Tests.{not-true, not-false}
-use lib.ListN.{length, take, drop, length-set}
+use lib.ListN.{length, take, drop}
 use native.Mathlib.Omega.{arith}
-use mathlib.Core.Path.{_≡_, refl, sym, ap, _∙_}
-use Prim.Native.Nat.{ℕ, _+_, _≤_, _-_}
+use mathlib.Core.Path.{_≡_, refl, _∙_}
+use Prim.Native.Nat.{_≤_, _-_}
 use Rattle.reports.proofs.is_due.Statement.{statement}
 use Rattle.reports.proofs.is_due.Tie as tie
 use Rattle.reports.proofs.is_due.Reads as reads

@@ -1,9 +1,9 @@
 use Rattle.queues.specs.QueueLaws.{shifted-zero, shifted-suc}
 use Rattle.queues.specs.Queue.{shifted}
-use lib.ListN.{length, take, drop, length-set}
+use lib.ListN.{length, length-set}
 use native.Mathlib.Omega.{arith}
-use mathlib.Core.Path.{_≡_, refl, sym, ap, _∙_}
-use Prim.Native.Nat.{ℕ, _+_, _≤_, _-_}
+use mathlib.Core.Path.{_≡_, ap, _∙_}
+use Prim.Native.Nat.{ℕ, _≤_, _-_}
 use Rattle.reports.proofs.shift_words.Statement.{statement}
 use Rattle.reports.proofs.shift_words.Tie as tie
 use Rattle.reports.proofs.shift_words.Reads as reads

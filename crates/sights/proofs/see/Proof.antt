@@ -1,7 +1,7 @@
 use Rattle.sights.specs.ViewLaws.{view-refused, view-few, view-nothing, view-seen, seen-law}
 use Rattle.state.specs.Central.{central}
 use native.Mathlib.Omega.{arith}
-use Prim.Native.Nat.{ℕ, _<_}
+use Prim.Native.Nat.{_<_}
 use borrow.Author.Needs.{needs}
 use Rattle.sights.proofs.see.Statement.{statement}
 use Rattle.sights.proofs.see.Tie as tie

@@ -1,5 +1,4 @@
-use native.Mathlib.Omega.{arith}
-use Rattle.turns.proofs.SendLaws.{taken-fits, sent-law, value-fits, value-law, asked-law, request-law}
+use Rattle.turns.proofs.SendLaws.{asked-law}
 use borrow.Author.Needs.{needs}
 use Rattle.turns.proofs.asked.Statement.{statement}
 use Rattle.turns.proofs.asked.Tie as tie

@@ -1,8 +1,5 @@
 use Rattle.turns.proofs.FinishLaws.{value-length}
-use lib.ListN.{length}
-use mathlib.Core.Path.{ap, _∙_}
-use native.Mathlib.Omega.{arith}
-use Rattle.turns.proofs.FinishLaws.{value-room, value-full, push-room, push-full, finish-on, finish-off}
+use Rattle.turns.proofs.FinishLaws.{finish-on, finish-off}
 use borrow.Author.Needs.{needs}
 use Rattle.turns.proofs.finish.Statement.{statement}
 use Rattle.turns.proofs.finish.Tie as tie

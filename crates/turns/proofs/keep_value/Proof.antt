@@ -1,4 +1,4 @@
-use Rattle.turns.proofs.FinishLaws.{value-room, value-full, push-room, push-full, finish-on, finish-off}
+use Rattle.turns.proofs.FinishLaws.{value-room, value-full}
 use borrow.Author.Needs.{needs}
 use Rattle.turns.proofs.keep_value.Statement.{statement}
 use Rattle.turns.proofs.keep_value.Tie as tie

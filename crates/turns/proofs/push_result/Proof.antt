@@ -1,10 +1,7 @@
-use mathlib.Core.Path.{refl}
 use mathlib.Core.Path.{_≡_}
 use lib.ListN.{length-map}
 use lib.ListN.{length}
-use mathlib.Core.Path.{ap, _∙_}
-use native.Mathlib.Omega.{arith}
-use Rattle.turns.proofs.FinishLaws.{value-room, value-full, push-room, push-full, finish-on, finish-off}
+use Rattle.turns.proofs.FinishLaws.{push-room, push-full}
 use borrow.Author.Needs.{needs}
 use Rattle.turns.proofs.push_result.Statement.{statement}
 use Rattle.turns.proofs.push_result.Tie as tie

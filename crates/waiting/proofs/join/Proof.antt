@@ -1,7 +1,6 @@
-use mathlib.Core.Path.{_≡_, ap, _∙_}
+use mathlib.Core.Path.{_≡_}
 use lib.ListN.{length, length-map}
-use native.Mathlib.Omega.{arith}
-use Rattle.waiting.proofs.WaitingLaws.{join-law, rest-law, pushed-in, pushed-over, took}
+use Rattle.waiting.proofs.WaitingLaws.{join-law}
 use borrow.Author.Needs.{needs}
 use Rattle.waiting.proofs.join.Statement.{statement}
 use Rattle.waiting.proofs.join.Tie as tie

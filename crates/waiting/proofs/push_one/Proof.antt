@@ -1,7 +1,4 @@
-use mathlib.Core.Path.{_≡_, ap, _∙_}
-use lib.ListN.{length, length-map}
-use native.Mathlib.Omega.{arith}
-use Rattle.waiting.proofs.WaitingLaws.{join-law, rest-law, pushed-in, pushed-over, took}
+use Rattle.waiting.proofs.WaitingLaws.{pushed-in, pushed-over}
 use borrow.Author.Needs.{needs}
 use Rattle.waiting.proofs.push_one.Statement.{statement}
 use Rattle.waiting.proofs.push_one.Tie as tie

@@ -1,7 +1,6 @@
-use mathlib.Core.Path.{_≡_, ap, _∙_}
+use mathlib.Core.Path.{_≡_}
 use lib.ListN.{length, length-map}
-use native.Mathlib.Omega.{arith}
-use Rattle.waiting.proofs.WaitingLaws.{join-law, rest-law, pushed-in, pushed-over, took, kept-length}
+use Rattle.waiting.proofs.WaitingLaws.{rest-law}
 use borrow.Author.Needs.{needs}
 use Rattle.waiting.proofs.rest.Statement.{statement}
 use Rattle.waiting.proofs.rest.Tie as tie

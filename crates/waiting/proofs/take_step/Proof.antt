@@ -1,8 +1,7 @@
 use Rattle.state.specs.declared.Queue.{Queue}
-use mathlib.Core.Path.{_≡_, ap, _∙_}
-use lib.ListN.{length, length-map}
+use mathlib.Core.Path.{ap}
 use native.Mathlib.Omega.{arith}
-use Rattle.waiting.proofs.WaitingLaws.{join-law, rest-law, pushed-in, pushed-over, took, kept-length}
+use Rattle.waiting.proofs.WaitingLaws.{took, kept-length}
 use borrow.Author.Needs.{needs}
 use Rattle.waiting.proofs.take_step.Statement.{statement}
 use Rattle.waiting.proofs.take_step.Tie as tie
