@@ -1,9 +1,8 @@
 -- What each return of the walk through characteristics and descriptors asks, from what its callees ensure.
 use Prim.Native.Nat.{ℕ, _+_, _-_, _≤_, _<_}
-use mathlib.Core.Path.{_≡_, refl, sym, ap, subst, _∙_}
+use mathlib.Core.Path.{_≡_, sym, ap, subst, _∙_}
 use mathlib.Core.Bool.{true, false}
-use mathlib.Core.List.{List, [], _∷_}
-use lib.ListN.{length}
+use mathlib.Core.List.{List}
 use lib.Dec.{eqb, leb, ltb}
 use borrow.Author.Tests.{lt-ltb, le-ltb, le-leb, lt-leb, eq-eqb, ne-eqb}
 use Rattle.base.specs.Choice.{pick}
@@ -11,12 +10,11 @@ use Rattle.queues.specs.Blocks.{bytes}
 use Rattle.entries.specs.Cut.{entries, part}
 use Rattle.entries.proofs.TakenLaws.{taken-most}
 use Rattle.services.specs.declared.Services.{Services}
-use Rattle.characteristics.specs.declared.Characteristic.{Characteristic}
 use Rattle.characteristics.specs.declared.Characteristics.{Characteristics}
 use Rattle.characteristics.proofs.Keeps.{rising-if, rises-if, taken-rising}
-use Rattle.descriptors.specs.Named.{given, givenAll, descriptorsNamed}
+use Rattle.descriptors.specs.Named.{descriptorsNamed}
 use Rattle.descriptors.specs.declared.Named.{Named}
-use Rattle.descriptors.proofs.NamedLaws.{length-given}
+use Rattle.descriptors.proofs.NamedLaws.{length-givenAll}
 use Rattle.descriptors.proofs.Keeps.{named-rising}
 use Rattle.turns.specs.World.{World}
 use Rattle.keeps.specs.Nearly.{Peer}
@@ -47,17 +45,12 @@ characteristics-kept x y z none es f e g p =
     let o = rises-if (characteristic.known (characteristic.characteristicsTaken x none es .table)) (taken-rising x none es (rising-if (characteristic.known x) (q .rising))) in
     subst (λ (m : characteristics-found.Found). Peer z (m .table)) (sym g) (record { services = q .services; characteristics = k; rising = o })
 
-length-all : (l : List Characteristic) (es : List (List ℕ)) → length (givenAll l es) ≡ length l
-unfolding givenAll
-length-all l [] = refl
-length-all l (e ∷ es) = length-all (given l e) es ∙ length-given l e
-
 pub descriptors-kept : (x y : Characteristics) (z : Services) (first : ℕ) (es : List (List ℕ)) (f : Named)
     → x ≡ y → f ≡ descriptorsNamed x first es → Peer z y → Peer z (f .table)
 descriptors-kept x y z first es f e g p =
     let q : Peer z x = subst (λ (k : Characteristics). Peer z k) (sym e) p in
     let k : descriptorsNamed x first es .table .count ≤ 64 =
-    subst (λ (m : ℕ). m ≤ 64) (sym (length-all (characteristic.known x) es)) (few (x .count) 64 (x .kept) (q .characteristics)) in
+    subst (λ (m : ℕ). m ≤ 64) (sym (length-givenAll (characteristic.known x) es)) (few (x .count) 64 (x .kept) (q .characteristics)) in
     let o = rises-if (characteristic.known (descriptorsNamed x first es .table)) (named-rising x first es (rising-if (characteristic.known x) (q .rising))) in
     subst (λ (m : Named). Peer z (m .table)) (sym g) (record { services = q .services; characteristics = k; rising = o })
 

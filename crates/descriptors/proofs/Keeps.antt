@@ -18,7 +18,7 @@ use Rattle.characteristics.specs.declared.Cccd.the-variants.{Unknown, At}
 use Rattle.characteristics.specs.declared.Characteristic.{Characteristic}
 use Rattle.characteristics.specs.declared.Characteristics.{Characteristics}
 use Rattle.descriptors.specs.Named.{cccdType, markBy, marked, below, give, handleOf, giveBy, given, givenAll, descriptorsNamed}
-use Rattle.descriptors.proofs.NamedLaws.{length-given}
+use Rattle.descriptors.proofs.NamedLaws.{length-givenAll}
 
 -- ---- a CCCD changes no declaration
 
@@ -53,11 +53,6 @@ givenAll-rising : (l : List Characteristic) (es : List (List ℕ)) → Rising l 
 unfolding givenAll
 givenAll-rising l [] u = u
 givenAll-rising l (e ∷ es) u = givenAll-rising (given l e) es (given-rising l e u)
-
-length-givenAll : (l : List Characteristic) (es : List (List ℕ)) → length (givenAll l es) ≡ length l
-unfolding givenAll
-length-givenAll l [] = refl
-length-givenAll l (e ∷ es) = length-givenAll (given l e) es ∙ length-given l e
 
 -- ---- the table
 

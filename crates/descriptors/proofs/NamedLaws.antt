@@ -2,7 +2,7 @@
 use Prim.Native.Nat.{ℕ, _+_, _≤_, _<_}
 use mathlib.Core.Path.{_≡_, refl, sym, ap, _∙_}
 use mathlib.Core.Bool.{Bool, true, false}
-use mathlib.Core.List.{List}
+use mathlib.Core.List.{List, [], _∷_}
 use native.Mathlib.Omega.{arith}
 use lib.ListN.{length, drop}
 use lib.Seq.{length-take-le}
@@ -60,6 +60,11 @@ length-given l e = go (attUuid (drop 2 e))
         by true = length-give (handleOf e) l
         by false = refl
     go read-variants.Nothing = refl
+
+pub length-givenAll : (l : List Characteristic) (es : List (List ℕ)) → length (givenAll l es) ≡ length l
+unfolding givenAll
+length-givenAll l [] = refl
+length-givenAll l (e ∷ es) = length-givenAll (given l e) es ∙ length-given l e
 
 -- ---- the loop over the entries
 

@@ -1,20 +1,19 @@
 -- The tables that a response's entries leave: no more entries than places, and characteristics still rising.
 use Prim.Native.Nat.{ℕ, _≤_}
-use mathlib.Core.Path.{_≡_, refl, _∙_}
+use mathlib.Core.Path.{_≡_, refl}
 use mathlib.Core.Bool.{true}
-use mathlib.Core.List.{List, [], _∷_}
+use mathlib.Core.List.{List}
 use native.Mathlib.Omega.{arith}
-use lib.ListN.{length, length-take}
+use lib.ListN.{length-take}
 use Rattle.places.specs.Sizes.{mostServices, mostCharacteristics}
 use Rattle.entries.proofs.TakenLaws.{taken-most}
 use Rattle.services.specs.Service as service
 use Rattle.services.specs.declared.Services.{Services}
 use Rattle.characteristics.specs.Characteristic.{known, rises, more, declarationOf, characteristicsTaken}
-use Rattle.characteristics.specs.declared.Characteristic.{Characteristic}
 use Rattle.characteristics.specs.declared.Characteristics.{Characteristics}
 use Rattle.characteristics.proofs.Keeps.{rising-if, rises-if, taken-rising}
-use Rattle.descriptors.specs.Named.{given, givenAll, descriptorsNamed}
-use Rattle.descriptors.proofs.NamedLaws.{length-given}
+use Rattle.descriptors.specs.Named.{descriptorsNamed}
+use Rattle.descriptors.proofs.NamedLaws.{length-givenAll}
 use Rattle.descriptors.proofs.Keeps.{named-rising}
 use Rattle.state.specs.Central.{withServices, withCharacteristics}
 use Rattle.turns.specs.World.{Held, onState}
@@ -33,14 +32,9 @@ module _ (t : Characteristics) (none : ℕ) (es : List (List ℕ)) where
   pub taken-rises : rises (known t) ≡ true → rises (known (characteristicsTaken t none es .table)) ≡ true
   taken-rises e = rises-if (known (characteristicsTaken t none es .table)) (taken-rising t none es (rising-if (known t) e))
 
-length-all : (l : List Characteristic) (es : List (List ℕ)) → length (givenAll l es) ≡ length l
-unfolding givenAll
-length-all l [] = refl
-length-all l (e ∷ es) = length-all (given l e) es ∙ length-given l e
-
 module _ (t : Characteristics) (first : ℕ) (es : List (List ℕ)) where
   pub named-few : t .count ≤ mostCharacteristics → descriptorsNamed t first es .table .count ≤ mostCharacteristics
-  named-few h = omega (arith, length-all (known t) es, length-take (t .count) (t .kept))
+  named-few h = omega (arith, length-givenAll (known t) es, length-take (t .count) (t .kept))
 
   pub named-rises : rises (known t) ≡ true → rises (known (descriptorsNamed t first es .table)) ≡ true
   named-rises e = rises-if (known (descriptorsNamed t first es .table)) (named-rising t first es (rising-if (known t) e))
