@@ -1,0 +1,4 @@
+pub mod Field
+pub mod LendsField
+pub mod LendsFieldAlone
+pub mod Rows

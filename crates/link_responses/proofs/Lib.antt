@@ -1,0 +1,2 @@
+pub mod ErrorLaws
+pub mod ResponseLaws

@@ -1,0 +1,62 @@
+-- A call on lent tables that goes by its gate: what it may do, and its two ways out.
+use Prim.Native.Nat.{ℕ, _≤_}
+use mathlib.Core.Path.{_≡_, sym, ap, subst, _∙_}
+use mathlib.Core.List.{List}
+use lib.ListN.{length}
+use lib.Dec.{eqb}
+use Rattle.base.specs.Choice.{pick}
+use Rattle.time.specs.declared.Micros.{Micros}
+use Rattle.time.specs.Clock.{latest}
+use Rattle.refusals.specs.Refusals.{accepted}
+use Rattle.fit.specs.Gate.{gate, gateQuiet}
+use Rattle.turns.specs.World.{Held, World}
+use Rattle.keeps.specs.Sound.{Sound, Whole}
+use Rattle.calls.specs.Outcome.{begins, done, refused, quietly, quietlyRefused}
+use Rattle.calls.proofs.BeginLaws.{may-begin, may-begin-quietly}
+use Rattle.calls.proofs.GateLaws.{goes-through, is-stopped}
+use Rattle.state_core.specs.declared.Core.{Core}
+use Rattle.state_core.specs.declared.Turn.{Turn}
+use Rattle.state_core.specs.Reading.{central, held, world}
+use Rattle.central_answers.specs.declared.Answer.{Answer}
+use Rattle.central_answers.specs.declared.QuietAnswer.{QuietAnswer}
+use Rattle.central_answers.specs.Answers.{outcome, quiet}
+
+-- ---- of a call that may send: f is what it does
+
+module _ (f : World → World) (c : Core) (w st out : List ℕ) (at : Micros) (n : ℕ) (e : n ≡ gate (central c w) (length st) (length out) at) where
+  abbrev g : ℕ
+  g = gate (central c w) (length st) (length out) at
+
+  pub call-refused : (a : Answer) → (n ≡ 0 → ⊥) → ((x y z : List ℕ) → outcome a x y z ≡ refused (central c x) n y z)
+      → outcome a w st out ≡ pick (eqb g accepted) (done (f (begins (central c w) st out))) (refused (central c w) g st out)
+  call-refused a h ea = ea w st out ∙ ap (λ (k : ℕ). refused (central c w) k st out) e ∙ sym (is-stopped n g e _ _ h)
+
+  module _ (h : n ≡ 0) (t : Turn) (b : (x y z : List ℕ) → world t x y z ≡ begins (central c x) y z) where
+    pub call-begins : Sound 65 (world t w st out) × (at .0 ≤ latest)
+    call-begins =
+        let m = may-begin (central c w) st out at (sym e ∙ h) in
+        (subst (λ (v : World). Sound 65 v) (sym (b w st out)) (m .0), m .1)
+
+    pub call-done : (r : Turn) (w₂ st₂ out₂ : List ℕ) (a : Answer) → world r w₂ st₂ out₂ ≡ f (world t w st out)
+        → ((x y z : List ℕ) → outcome a x y z ≡ done (world r x y z))
+        → outcome a w₂ st₂ out₂ ≡ pick (eqb g accepted) (done (f (begins (central c w) st out))) (refused (central c w) g st out)
+    call-done r w₂ st₂ out₂ a er ea = ea w₂ st₂ out₂ ∙ ap done (er ∙ ap f (b w st out)) ∙ sym (goes-through n g e _ _ h)
+
+-- ---- of a call that sends nothing
+
+module _ (f : Held → Held) (c : Core) (w st : List ℕ) (at : Micros) (n : ℕ) (e : n ≡ gateQuiet (central c w) (length st) at) where
+  abbrev q : ℕ
+  q = gateQuiet (central c w) (length st) at
+
+  pub quiet-refused : (a : QuietAnswer) → (n ≡ 0 → ⊥) → ((x y : List ℕ) → quiet a x y ≡ quietlyRefused (central c x) n y)
+      → quiet a w st ≡ pick (eqb q accepted) (quietly (f (held c w st))) (quietlyRefused (central c w) q st)
+  quiet-refused a h ea = ea w st ∙ ap (λ (k : ℕ). quietlyRefused (central c w) k st) e ∙ sym (is-stopped n q e _ _ h)
+
+  module _ (h : n ≡ 0) where
+    pub quiet-begins : Whole (held c w st) × (at .0 ≤ latest)
+    quiet-begins = may-begin-quietly (central c w) st at (sym e ∙ h)
+
+    pub quiet-done : (r : Core) (w₂ st₂ : List ℕ) (a : QuietAnswer) → held r w₂ st₂ ≡ f (held c w st)
+        → ((x y : List ℕ) → quiet a x y ≡ quietly (held r x y))
+        → quiet a w₂ st₂ ≡ pick (eqb q accepted) (quietly (f (held c w st))) (quietlyRefused (central c w) q st)
+    quiet-done r w₂ st₂ a er ea = ea w₂ st₂ ∙ ap quietly er ∙ sym (goes-through n q e _ _ h)

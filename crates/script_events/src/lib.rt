@@ -1,0 +1,188 @@
+// on_timer, on_connected and on_disconnected.
+ghost use mathlib.Core.Path.{_≡_};
+ghost use Prim.Native.Nat.{_≤_};
+ghost use lib.ListN.{length};
+ghost use Rattle.places.specs.Sizes.{storeSize, mostResults};
+ghost use Rattle.time.specs.Clock.{latest};
+ghost use Rattle.timeouts.specs.Timeouts.{timedOut};
+ghost use Rattle.comings.specs.Comings.{greeted, goesOn, cutStatus, expire, connect, cutOff, lose};
+ghost use Rattle.keeps.specs.Sound.{Sound, Whole};
+ghost use Rattle.events.specs.Events.{onTimer, onConnected, onDisconnected};
+ghost use Rattle.state_core.specs.Reading.{central, held, world};
+ghost use Rattle.central_answers.specs.Answers.{outcome, quiet, Leaves};
+use central_answers::Answer;
+use central_answers::QuietAnswer;
+use refusals::refusal;
+use state::Step;
+use state::StepStatus;
+use state_core::Core;
+use state_core::Turn;
+use time::Micros;
+
+// ---- the timer
+
+// How a step that is due ends.
+fn timed_out(step: Step) -> StepStatus
+    ensures { λ r. ⌜ r ≡ timedOut step ⌝ }
+{
+    if kinds::is_kind(step, kinds::SCAN) | kinds::is_kind(step, kinds::WAIT) {
+        return StepStatus::Ok;
+    }
+    StepStatus::Timeout
+}
+
+// The running step ends, if its deadline is now or before.
+fn expire(t: Turn, tables: &mut [u64; 1056], store: &mut [u8], out: &mut [u8], at: Micros) -> Turn
+    requires { ⌜ Sound 65 (world t (now tables) (now store) (now out)) × (at .0 ≤ latest) ⌝ }
+    ensures { λ r. ⌜ world r (now (tables .exit)) (now (store .exit)) (now (out .exit)) ≡ expire (world t (now (tables .entry)) (now (store .entry)) (now (out .entry))) at ⌝ }
+{
+    let core = t.core;
+    let running = core.running;
+    if timeouts::is_due(running, at) {
+        let step = running.step;
+        let u = script_turns::end_turn(t, tables, store, at, timed_out(step));
+        return script_run::advance(u, tables, store, out, at);
+    }
+    t
+}
+
+// The running step ends, if its deadline is now or before.
+pub fn on_timer(
+    core: Core,
+    tables: &mut [u64; 1056],
+    store: &mut [u8],
+    out: &mut [u8],
+    at: Micros,
+) -> Answer
+    ensures { λ r. ⌜ outcome r (now (tables .exit)) (now (store .exit)) (now (out .exit)) ≡ onTimer (central core (now (tables .entry))) (now (store .entry)) (now (out .entry)) at ⌝ }
+    ensures refused { λ r. ⌜ Leaves (r .refusal) core (r .core) (now (tables .entry)) (now (tables .exit)) (now (store .entry)) (now (store .exit)) × ((r .refusal ≡ 0 → ⊥) → now (out .exit) ≡ now (out .entry)) ⌝ }
+{
+    let refusal = state_fit::gate(core, tables, store.len(), out.len(), at);
+    if refusal == refusal::ACCEPTED {
+        let begun = central_answers::begin(core);
+        let ended = expire(begun, tables, store, out, at);
+        return central_answers::done(ended);
+    }
+    central_answers::refuse(core, refusal)
+}
+
+// ---- a link comes
+
+// A running Connect is done.
+fn greet(c: Core, tables: &mut [u64; 1056], store: &mut [u8], at: Micros) -> Core
+    requires { ⌜ (length (now store) ≡ storeSize) × (c .counts .results ≤ mostResults) ⌝ }
+    ensures { λ r. ⌜ held r (now (tables .exit)) (now (store .exit)) ≡ greeted (held c (now (tables .entry)) (now (store .entry))) at ⌝ }
+{
+    let running = c.running;
+    let step = running.step;
+    if kinds::is_kind(step, kinds::CONNECT) {
+        return script_turns::end(c, tables, store, at, StepStatus::Ok);
+    }
+    c
+}
+
+fn connect(
+    t: Turn,
+    tables: &mut [u64; 1056],
+    store: &mut [u8],
+    out: &mut [u8],
+    handle: u16,
+    at: Micros,
+) -> Turn
+    requires { ⌜ Sound 65 (world t (now tables) (now store) (now out)) × (at .0 ≤ latest) ⌝ }
+    ensures { λ r. ⌜ world r (now (tables .exit)) (now (store .exit)) (now (out .exit)) ≡ connect (world t (now (tables .entry)) (now (store .entry)) (now (out .entry))) handle at ⌝ }
+{
+    let mut core = t.core;
+    let sent = t.sent;
+    let was = core.bearer;
+    let mut bearer = link_record::opened(was, handle);
+    bearer.held = 0;
+    bearer.present = true;
+    core.bearer = bearer;
+    let next = greet(core, tables, store, at);
+    let u = Turn { core: next, sent };
+    script_run::advance(u, tables, store, out, at)
+}
+
+// There is a new link, by this handle.
+pub fn on_connected(
+    core: Core,
+    tables: &mut [u64; 1056],
+    store: &mut [u8],
+    out: &mut [u8],
+    handle: u16,
+    at: Micros,
+) -> Answer
+    ensures { λ r. ⌜ outcome r (now (tables .exit)) (now (store .exit)) (now (out .exit)) ≡ onConnected (central core (now (tables .entry))) (now (store .entry)) (now (out .entry)) handle at ⌝ }
+    ensures refused { λ r. ⌜ Leaves (r .refusal) core (r .core) (now (tables .entry)) (now (tables .exit)) (now (store .entry)) (now (store .exit)) × ((r .refusal ≡ 0 → ⊥) → now (out .exit) ≡ now (out .entry)) ⌝ }
+{
+    let refusal = state_fit::gate(core, tables, store.len(), out.len(), at);
+    if refusal == refusal::ACCEPTED {
+        let t = connect(central_answers::begin(core), tables, store, out, handle, at);
+        return central_answers::done(t);
+    }
+    central_answers::refuse(core, refusal)
+}
+
+// ---- a link goes
+
+// Whether a step needs no link.
+fn goes_on(step: Step) -> bool
+    ensures { λ r. ⌜ r ≡ goesOn step ⌝ }
+{
+    kinds::is_kind(step, kinds::SCAN)
+        | (kinds::is_kind(step, kinds::CONNECT) | kinds::is_kind(step, kinds::WAIT))
+}
+
+// How a step that needs a link ends without one.
+fn cut_status(step: Step) -> StepStatus
+    ensures { λ r. ⌜ r ≡ cutStatus step ⌝ }
+{
+    if kinds::is_kind(step, kinds::DISCONNECT) {
+        return StepStatus::Ok;
+    }
+    StepStatus::Disconnected
+}
+
+// A running step that needs a link ends.
+fn cut_off(c: Core, tables: &mut [u64; 1056], store: &mut [u8], at: Micros) -> Core
+    requires { ⌜ (length (now store) ≡ storeSize) × (c .counts .results ≤ mostResults) ⌝ }
+    ensures { λ r. ⌜ held r (now (tables .exit)) (now (store .exit)) ≡ cutOff (held c (now (tables .entry)) (now (store .entry))) at (c .running .step) ⌝ }
+{
+    let running = c.running;
+    let step = running.step;
+    if goes_on(step) {
+        return c;
+    }
+    script_turns::end(c, tables, store, at, cut_status(step))
+}
+
+fn lose(c: Core, tables: &mut [u64; 1056], store: &mut [u8], at: Micros) -> Core
+    requires { ⌜ Whole (held c (now tables) (now store)) × (at .0 ≤ latest) ⌝ }
+    ensures { λ r. ⌜ held r (now (tables .exit)) (now (store .exit)) ≡ lose (held c (now (tables .entry)) (now (store .entry))) at ⌝ }
+{
+    let mut bearer = c.bearer;
+    bearer.present = false;
+    let mut unlinked = c;
+    unlinked.bearer = bearer;
+    let cut = cut_off(unlinked, tables, store, at);
+    script_run::advance_unlinked(cut, tables, store, at)
+}
+
+// There is no link any more.
+pub fn on_disconnected(
+    core: Core,
+    tables: &mut [u64; 1056],
+    store: &mut [u8],
+    at: Micros,
+) -> QuietAnswer
+    ensures { λ r. ⌜ quiet r (now (tables .exit)) (now (store .exit)) ≡ onDisconnected (central core (now (tables .entry))) (now (store .entry)) at ⌝ }
+    ensures refused { λ r. ⌜ Leaves (r .refusal) core (r .core) (now (tables .entry)) (now (tables .exit)) (now (store .entry)) (now (store .exit)) ⌝ }
+{
+    let refusal = state_fit::gate_quiet(core, tables, store.len(), at);
+    if refusal == refusal::ACCEPTED {
+        let left = lose(core, tables, store, at);
+        return central_answers::done_quietly(left);
+    }
+    central_answers::refuse_quietly(core, refusal)
+}

@@ -1,0 +1,116 @@
+// The wait check: what a WaitNotification looks at, when it starts and at each notification.
+ghost use mathlib.Core.Path.{_≡_};
+ghost use lib.ListN.{length};
+ghost use Rattle.places.specs.Sizes.{storeSize};
+ghost use Rattle.starts.specs.Wait.{Looks, waitPasses, passed, checkOne, awaited, checkWait};
+ghost use Rattle.state_core.specs.Reading.{central, held};
+use characteristics::Which;
+use starts::Awaited;
+use state::Counters;
+use state::Step;
+use state::StepStatus;
+use state_core::Core;
+use time::Micros;
+
+// All that was notified so far is behind the wait that passed.
+fn pass(k: Counters) -> Counters
+    ensures { λ r. ⌜ r ≡ passed k ⌝ }
+{
+    let mut o = k;
+    o.wait_from = k.notified;
+    o
+}
+
+// Whether the running wait passes on what was heard of this handle.
+fn wait_passes(c: Core, tables: &[u64; 1056], store: &[u8], handle: u16) -> bool
+    requires { ⌜ (length (now store) ≡ storeSize) × Looks (central c (now tables)) ⌝ }
+    ensures { λ r. ⌜ r ≡ waitPasses (held c (now (tables .entry)) (now (store .entry))) handle ⌝ }
+{
+    let counters = c.counters;
+    let running = c.running;
+    let counts = c.counts;
+    let kept = counts.notifications;
+    let skip = waits::skipped(counters.notified, kept, counters.wait_from);
+    let len = running.len as usize;
+    words_notification::wait_passes(tables, kept, skip, handle, store, places::RUNNING_AT, len)
+}
+
+// By the characteristic that the step names.
+fn check_one(c: Core, tables: &mut [u64; 1056], store: &mut [u8], at: Micros, x: Which) -> Core
+    requires { ⌜ (length (now store) ≡ storeSize) × Looks (central c (now tables)) ⌝ }
+    ensures { λ r. ⌜ held r (now (tables .exit)) (now (store .exit)) ≡ checkOne (held c (now (tables .entry)) (now (store .entry))) at x ⌝ }
+{
+    match x {
+        Which::Nothing => script_turns::end(c, tables, store, at, StepStatus::NotFound),
+        Which::At(known) => {
+            if wait_passes(c, tables, store, known.value_handle) {
+                let counters = c.counters;
+                let mut o = c;
+                o.counters = pass(counters);
+                return script_turns::end(o, tables, store, at, StepStatus::Ok);
+            }
+            c
+        }
+    }
+}
+
+// The characteristic that a step waits on.
+fn awaited_by(step: Step) -> Awaited
+    ensures { λ r. ⌜ r ≡ awaited step ⌝ }
+{
+    match step {
+        Step::Scan { ms: _ } => Awaited::Nothing,
+        Step::Connect {
+            target: _,
+            interval: _,
+            latency: _,
+            timeout: _,
+            within_ms: _,
+        } => Awaited::Nothing,
+        Step::ExchangeMtu { mtu: _ } => Awaited::Nothing,
+        Step::DiscoverServices => Awaited::Nothing,
+        Step::DiscoverCharacteristics { service: _ } => Awaited::Nothing,
+        Step::Subscribe {
+            characteristic: _,
+            indicate: _,
+        } => Awaited::Nothing,
+        Step::Write {
+            characteristic: _,
+            with_response: _,
+        } => Awaited::Nothing,
+        Step::Read { characteristic: _ } => Awaited::Nothing,
+        Step::WaitNotification {
+            characteristic,
+            within_ms: _,
+        } => Awaited::On(characteristic),
+        Step::Wait { ms: _ } => Awaited::Nothing,
+        Step::Disconnect => Awaited::Nothing,
+        Step::Capture { enabled: _ } => Awaited::Nothing,
+        Step::CaptureSecrets { secrets: _ } => Awaited::Nothing,
+    }
+}
+
+// A running WaitNotification looks at what was heard.
+pub fn check_wait(c: Core, tables: &mut [u64; 1056], store: &mut [u8], at: Micros) -> Core
+    requires { ⌜ (length (now store) ≡ storeSize) × Looks (central c (now tables)) ⌝ }
+    ensures { λ r. ⌜ held r (now (tables .exit)) (now (store .exit)) ≡ checkWait (held c (now (tables .entry)) (now (store .entry))) at ⌝ }
+{
+    let running = c.running;
+    let step = running.step;
+    if running.active {
+        match awaited_by(step) {
+            Awaited::Nothing => c,
+            Awaited::On(uuid) => {
+                let counts = c.counts;
+                let x = words_characteristic::find_characteristic(
+                    tables,
+                    counts.characteristics,
+                    uuid,
+                );
+                check_one(c, tables, store, at, x)
+            }
+        }
+    } else {
+        c
+    }
+}

@@ -1,0 +1,102 @@
+// The calls that only read a state in numbers.
+ghost use mathlib.Core.Path.{_≡_};
+ghost use Prim.Native.Nat.{_≤_};
+ghost use lib.ListN.{length, take};
+ghost use Rattle.places.specs.Sizes.{mostResults};
+ghost use Rattle.readers.specs.Readers.{timerOf, timer, handleOf, handle, given, result};
+ghost use Rattle.words.specs.Tables.{resultsIn};
+ghost use Rattle.state_core.specs.Reading.{central};
+use readers::Given;
+use readers::Handle;
+use readers::Timer;
+use refusals::refusal;
+use state::Bearer;
+use state::Running;
+use state_core::Core;
+
+fn timer_of(r: Running) -> Timer
+    ensures { λ x. ⌜ x ≡ timerOf r ⌝ }
+{
+    let at = r.deadline;
+    if r.active & r.dated {
+        return Timer::At(at);
+    }
+    Timer::Never
+}
+
+// When the running step is to be ended by a timer call, if ever.
+pub fn timer_us(core: Core, tables: &[u64; 1056], store: &[u8]) -> Timer
+    ensures { λ r. ⌜ r ≡ timer (central core (now (tables .entry))) (length (now (store .entry))) ⌝ }
+{
+    let why = state_fit::gate_reader(core, tables, store.len());
+    if why != refusal::ACCEPTED {
+        return Timer::Refused(why);
+    }
+    let running = core.running;
+    timer_of(running)
+}
+
+fn handle_of(b: Bearer) -> Handle
+    ensures { λ r. ⌜ r ≡ handleOf b ⌝ }
+{
+    let link = b.link;
+    if b.present {
+        return Handle::Is(link.handle);
+    }
+    Handle::Absent
+}
+
+// The handle of the link, if there is one.
+pub fn connected_handle(core: Core, tables: &[u64; 1056], store: &[u8]) -> Handle
+    ensures { λ r. ⌜ r ≡ handle (central core (now (tables .entry))) (length (now (store .entry))) ⌝ }
+{
+    let why = state_fit::gate_reader(core, tables, store.len());
+    if why != refusal::ACCEPTED {
+        return Handle::Refused(why);
+    }
+    let bearer = core.bearer;
+    handle_of(bearer)
+}
+
+fn wide(x: u8) -> usize
+    ensures { λ r. ⌜ r ≡ x ⌝ }
+{
+    x as usize
+}
+
+// The first of an index.
+fn find(tables: &[u64; 1056], count: usize, index: u32) -> Given
+    requires { ⌜ count ≤ mostResults ⌝ }
+    ensures { λ r. ⌜ r ≡ given index 0 (take count (resultsIn (now (tables .entry)))) ⌝ }
+{
+    let mut i = 0;
+    while i < count {
+        let x = words_result::result_at(tables, i);
+        if x.index == index {
+            let at = x.at;
+            let status = x.status;
+            let place = places::result_at(i);
+            let len = wide(x.len);
+            return Given::Is {
+                at,
+                status,
+                place,
+                len,
+            };
+        }
+        i += 1;
+    }
+    Given::Nothing
+}
+
+// The kept result of an index.
+pub fn result(core: Core, tables: &[u64; 1056], store: &[u8], index: u32) -> Given
+    ensures { λ r. ⌜ r ≡ result (central core (now (tables .entry))) (length (now (store .entry))) index ⌝ }
+{
+    let why = state_fit::gate_reader(core, tables, store.len());
+    if why != refusal::ACCEPTED {
+        return Given::Refused(why);
+    }
+    let counts = core.counts;
+    find(tables, counts.results, index)
+}

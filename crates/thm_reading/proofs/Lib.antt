@@ -1,0 +1,15 @@
+pub mod Tables
+pub mod Blind
+pub mod Turns
+pub mod Queue
+pub mod Starts
+pub mod Script
+pub mod Replies
+pub mod Walks
+pub mod Rules
+pub mod Gates
+pub mod Reports
+pub mod Radio
+pub mod Calls
+pub mod DeadPlaces
+pub mod Words

@@ -1,0 +1,56 @@
+-- A step that ends, a step that waits, and a request, are blind to dead places.
+use Prim.Native.Nat.{ℕ}
+use mathlib.Core.Path.{_≡_, sym}
+use mathlib.Core.List.{List}
+use Rattle.queues.specs.Blocks.{stored}
+use Rattle.time.specs.declared.Micros.{Micros}
+use Rattle.time.specs.declared.Millis.{Millis}
+use Rattle.state.specs.Central.{Central, withRunning, withBearer, withResults}
+use Rattle.state.specs.declared.StepStatus.{StepStatus}
+use Rattle.state.specs.declared.StepResult.{StepResult}
+use Rattle.turns.specs.World.{Held, World, onHeld}
+use Rattle.turns.specs.Finish.{resultPart, idle, withLink, answered, ended, finish}
+use Rattle.turns.specs.Send.{request}
+use Rattle.starts.specs.Start.{waitsFor}
+use Rattle.thm_reading.proofs.Tables.{live-twice, results-push}
+use Rattle.thm_reading.proofs.Blind.{cut, cutWorld, held-twice, world-twice, pick-both}
+
+-- ---- a step ends
+
+module _ (h : Held) (at : Micros) (status : StepStatus) (from n : ℕ) where
+  abbrev c : Central
+  c = h .state
+
+  abbrev new : StepResult
+  new = record { index = c .running .index; at = at; status = status; len = n }
+
+  pub ended-blind : cut (ended h at status from n) ≡ cut (ended (cut h) at status from n)
+  unfolding ended
+  ended-blind = λ i.
+      record {
+        state = withResults
+            (withBearer (withRunning (sym (live-twice c) i) (idle (c .running))) (withLink (c .bearer) (answered (c .bearer .link))))
+            (results-push (c .results) new i);
+        store = stored resultPart (c .results .count) (h .store) from n (h .store);
+      }
+
+  pub finish-blind : cut (finish h at status from n) ≡ cut (finish (cut h) at status from n)
+  unfolding finish
+  finish-blind =
+      pick-both cut (c .running .active) (ended h at status from n) h (ended (cut h) at status from n) (cut h) ended-blind (held-twice h)
+
+-- the same of a world
+pub finish-world : (w : World) (at : Micros) (status : StepStatus) (from n : ℕ)
+    → cutWorld (onHeld w (finish (w .held) at status from n)) ≡ cutWorld (onHeld (cutWorld w) (finish (cut (w .held)) at status from n))
+finish-world w at status from n = λ i. record { held = finish-blind (w .held) at status from n i; told = w .told }
+
+-- ---- a step waits
+
+pub waits-blind : (h : Held) (at : Micros) (ms : Millis) → cut (waitsFor h at ms) ≡ cut (waitsFor (cut h) at ms)
+waits-blind h at ms = held-twice (waitsFor h at ms)
+
+-- ---- a request
+
+pub request-blind : (w : World) (at : Micros) (pdu : List ℕ) → cutWorld (request w at pdu) ≡ cutWorld (request (cutWorld w) at pdu)
+unfolding request
+request-blind w at pdu = world-twice (request w at pdu)

@@ -1,0 +1,4 @@
+pub mod Live
+pub mod Same
+pub mod Dead
+pub mod Calls

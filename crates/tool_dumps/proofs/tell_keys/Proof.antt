@@ -1,0 +1,75 @@
+use borrow.Author.Needs.{needs}
+use lib.ListN.{length}
+use mathlib.Core.Path.{_≡_}
+use Prim.Native.Nat.{_-_}
+use Rattle.tool_dumps.proofs.tell_keys.Statement.{statement}
+use Rattle.tool_dumps.proofs.tell_keys.Tie as tie
+use Rattle.tool_dumps.proofs.tell_keys.Reads as reads
+use Rattle.tool_dumps.proofs.tell_keys.Lts as lts
+use Rattle.lines.proofs.line.key.Reads as key-reads
+use Rattle.lines.proofs.line.number.Reads as number-reads
+
+abbrev Inv-loop : tie.InvT-loop
+Inv-loop tables count to₀ at n₀ i₀ to n i = length to ≡ length to₀
+
+abbrev μ-loop : tie.MeasureT-loop
+μ-loop tables count to₀ at n₀ i₀ to n i = 128 - i
+
+number-requires : tie.Need-number-requires Inv-loop μ-loop
+number-requires c κs = search needs
+
+loop-holds : tie.Need-loop-holds Inv-loop μ-loop
+loop-holds c = search needs
+
+add-p : tie.Need-add-p Inv-loop μ-loop
+add-p c = search needs
+
+mul-key : tie.Need-mul-key Inv-loop μ-loop
+mul-key c = search needs
+
+element-copy-out-key : tie.Need-element-copy-out-key Inv-loop μ-loop
+element-copy-out-key c = search needs
+
+key-requires : tie.Need-key-requires Inv-loop μ-loop
+key-requires c κs = search needs
+
+add-i : tie.Need-add-i Inv-loop μ-loop
+add-i c = search needs
+
+loop-less : tie.Need-loop-less Inv-loop μ-loop
+loop-less c = search needs
+
+loop-again : tie.Need-loop-again Inv-loop μ-loop
+loop-again c = search needs
+
+same-length : tie.Need-same-length Inv-loop μ-loop
+same-length c = search needs
+
+returns : tie.Need-returns Inv-loop μ-loop
+returns c = search needs
+
+same-length-2 : tie.Need-same-length-2 Inv-loop μ-loop
+same-length-2 c = search needs
+
+returns-2 : tie.Need-returns-2 Inv-loop μ-loop
+returns-2 c = search needs
+
+pub tell-keys-spec : {M : Type 1} → statement M
+tell-keys-spec =
+    tie.close
+    (tie.spec
+    Inv-loop
+    μ-loop
+    number-requires
+    loop-holds
+    add-p
+    mul-key
+    element-copy-out-key
+    key-requires
+    add-i
+    loop-less
+    loop-again
+    same-length
+    returns
+    same-length-2
+    returns-2)

@@ -1,0 +1,4 @@
+pub mod PlaceLaws
+pub mod LoopLaws
+pub mod ScanLaws
+pub mod AnswerLaws

@@ -1,0 +1,2 @@
+pub mod NotificationLaws
+pub mod SearchLaws

@@ -1,0 +1,19 @@
+use Rattle.words_notification.proofs.NotificationLaws.{down-law}
+use borrow.Author.Needs.{needs}
+use Rattle.words_notification.proofs.shift_notifications.Statement.{statement}
+use Rattle.words_notification.proofs.shift_notifications.Tie as tie
+use Rattle.words_notification.proofs.shift_notifications.Reads as reads
+use Rattle.words_notification.proofs.shift_notifications.Lts as lts
+use Rattle.words.proofs.lower.Reads as lower-reads
+
+lower-requires : tie.Need-lower-requires
+lower-requires c κs = search needs
+
+lower-requires-2 : tie.Need-lower-requires-2
+lower-requires-2 c κs = search needs
+
+returns : tie.Need-returns
+returns c = down-law _ _ _ (c .before .before .lower .ensures) (c .lower2 .ensures)
+
+pub shift-notifications-spec : {M : Type 1} → statement M
+shift-notifications-spec = tie.close (tie.spec lower-requires lower-requires-2 returns)

@@ -1,0 +1,2 @@
+pub mod ServiceLaws
+pub mod TakenLaws
