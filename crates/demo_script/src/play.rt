@@ -1,12 +1,12 @@
 // One thing after another happens, is given to the library, and what came of it is said.
 use crate::steps;
 use crate::story;
-use calls::Answer;
+use central::Answer;
+use central::State;
 use matching::AdvAction;
 use state::Address;
 use state::LinkRequest;
 use state::Sent;
-use state::State;
 use story::Happening;
 use story::What;
 use time::Micros;
@@ -59,7 +59,7 @@ struct Play {
 }
 
 fn refused(why: u8) {
-    if why != fit::refusal::ACCEPTED {
+    if why != refusals::refusal::ACCEPTED {
         say::told(b"    refused with ", why as u64, b"\n");
     }
 }
@@ -81,7 +81,7 @@ fn who(head: bool) -> Address {
 }
 
 fn advertised(s: State, store: &mut [u8], now: Micros, head: bool, data: &[u8]) -> Answer {
-    let a = radio::on_advertising(s, store, now, CHANNEL, ADV_IND, who(head), data, false);
+    let a = central::on_advertising(s, store, now, CHANNEL, ADV_IND, who(head), data, false);
     let state = a.state;
     let todo = a.action;
     action(todo);
@@ -93,7 +93,7 @@ fn advertised(s: State, store: &mut [u8], now: Micros, head: bool, data: &[u8]) 
 }
 
 fn responded(s: State, store: &mut [u8], now: Micros, data: &[u8]) -> Answer {
-    let a = scan_responses::on_scan_response(s, store, now, HEAD, data);
+    let a = central::on_scan_response(s, store, now, HEAD, data);
     let state = a.state;
     Answer {
         state,
@@ -103,7 +103,7 @@ fn responded(s: State, store: &mut [u8], now: Micros, data: &[u8]) -> Answer {
 }
 
 fn disconnected(s: State, store: &mut [u8], now: Micros) -> Answer {
-    let a = events::on_disconnected(s, store, now);
+    let a = central::on_disconnected(s, store, now);
     let state = a.state;
     Answer {
         state,
@@ -135,7 +135,7 @@ fn fragment(which: &[u8], n: usize) {
 // The first fragment of a frame comes in.
 fn start(s: State, store: &mut [u8], out: &mut [u8], now: Micros, part: &[u8]) -> State {
     fragment(b"      the first ", part.len());
-    let a = link::on_fragment(s, store, out, now, true, part);
+    let a = central::on_fragment(s, store, out, now, true, part);
     let state = a.state;
     refused(a.refusal);
     state
@@ -144,13 +144,13 @@ fn start(s: State, store: &mut [u8], out: &mut [u8], now: Micros, part: &[u8]) -
 // Then the last.
 fn last(s: State, store: &mut [u8], out: &mut [u8], now: Micros, part: &[u8]) -> Answer {
     fragment(b"      the last ", part.len());
-    link::on_fragment(s, store, out, now, false, part)
+    central::on_fragment(s, store, out, now, false, part)
 }
 
 // A frame comes in, as one fragment or as a start and a continuation.
 fn heard(s: State, store: &mut [u8], out: &mut [u8], now: Micros, frame: &[u8]) -> Answer {
     if frame.len() <= FRAGMENT {
-        return link::on_fragment(s, store, out, now, true, frame);
+        return central::on_fragment(s, store, out, now, true, frame);
     }
     let state = start(s, store, out, now, first(frame, FRAGMENT));
     last(state, store, out, now, after(frame, FRAGMENT))
@@ -159,11 +159,11 @@ fn heard(s: State, store: &mut [u8], out: &mut [u8], now: Micros, frame: &[u8]) 
 // The call that the library gets.
 fn act(s: State, store: &mut [u8], out: &mut [u8], now: Micros, what: What, data: &[u8]) -> Answer {
     match what {
-        What::Script { first } => batch::push_steps(s, store, out, now, steps::of(first), b""),
+        What::Script { first } => central::push_steps(s, store, out, now, steps::of(first), b""),
         What::Advert { head } => advertised(s, store, now, head, data),
         What::Response => responded(s, store, now, data),
-        What::Timer => events::on_timer(s, store, out, now),
-        What::Connected => events::on_connected(s, store, out, HANDLE, now),
+        What::Timer => central::on_timer(s, store, out, now),
+        What::Connected => central::on_connected(s, store, out, HANDLE, now),
         What::Frame { why: _ } => heard(s, store, out, now, data),
         What::Disconnected => disconnected(s, store, now),
     }
@@ -174,7 +174,7 @@ fn results(s: State, store: &[u8], from: u32) -> u32 {
     let mut index = from;
     let mut left: usize = 65;
     while 0 < left {
-        if !tells::result(index, readers::result(s, store, index), store) {
+        if !tells::result(index, central::result(s, store, index), store) {
             return index;
         }
         index = std::num::wrapping_add_u32(index, 1);
@@ -185,7 +185,8 @@ fn results(s: State, store: &[u8], from: u32) -> u32 {
 
 // How many notifications no wait has used up.
 fn unused(s: State) -> u64 {
-    let k = s.counters;
+    let core = s.core;
+    let k = core.counters;
     std::num::wrapping_sub_u64(k.notified, k.wait_from)
 }
 
@@ -267,7 +268,7 @@ fn is_over(p: Place) -> bool {
 
 fn begun() -> Play {
     Play {
-        state: state::fresh::fresh(),
+        state: central::fresh::fresh(),
         place: Place {
             next: 0,
             now: Micros(0),
