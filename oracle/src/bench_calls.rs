@@ -1,10 +1,10 @@
-//! What the calls cost, as ratios to the Rust, and the stack that each needs: `bench_calls [rounds N]`.
+//! What the calls cost, as ratios to the Rust: `bench_calls [rounds N]`.
 //!
-//! The port's side of each row is a loop in Rattle (crates/bench_calls, crates/bench_mixed), which is timed whole and less its
-//! set-up (the same loop of 0 calls); the Rust's side is the same loop here, its set-up not timed. The two run in turn, round after
-//! round, the order changing; what is printed is the ratio of the best times, the median of the rounds' own ratios, and the best
-//! times. Times are the thread's own processor time, so that other programs count for little. Both sides answer one number of what
-//! the calls gave and left, and the two must be equal.
+//! The port's side of each row is a loop in Rattle, once of the calls on lent tables (crates/tool_bench) and once of those on a state
+//! by value (crates/tool_bench_value). It is timed whole and less its set-up (the same loop of 0 calls); the Rust's side is the same
+//! loop here, its set-up not timed. The three run in turn, round after round, the order changing; what is printed is the ratio of
+//! the best times, the median of the rounds' own ratios, and the best times. Times are the thread's own processor time, so that
+//! other programs count for little. Each answers one number of what the calls gave and left, and all must be equal.
 
 #[path = "bench/link.rs"]
 mod link;
@@ -12,21 +12,22 @@ mod link;
 mod radio;
 #[path = "bench/script.rs"]
 mod script;
-#[path = "bench/stack.rs"]
-mod stack;
+#[path = "bench/setup.rs"]
+mod setup;
 
 use oracle::ble::central::{AdvReport, Central, Characteristic, Running, Step, Uuid};
+use setup::Lent;
 use std::ffi::c_int;
 use std::hint::black_box;
 
-/// Where each call ends a step, so many steps wait.
-pub const CALLS_A_SET_UP: u32 = 64;
-
-/// What is lent to the port.
-pub struct Lent {
-    pub store: Vec<u8>,
-    pub out: Vec<u8>,
+/// The port's two forms of each call.
+#[derive(Clone, Copy)]
+pub enum Form {
+    Lent,
+    ByValue,
 }
+
+const FORMS: [(&str, Form); 2] = [("lent", Form::Lent), ("by value", Form::ByValue)];
 
 /// One number of what the calls gave and left, and the nanoseconds that all took.
 pub type Took = (u64, f64);
@@ -95,7 +96,7 @@ pub fn running(step: Step, deadline_us: u64, phase: u8) -> Option<Running> {
     Some(Running { index: 0, step, deadline_us: Some(deadline_us), phase, cursor: 1, scan_requested: Vec::new() })
 }
 
-/// As crates/bench_calls/src/begin.rt has it of every state.
+/// As crates/tool_bench/src/begin.rt has it of every state.
 pub fn begun() -> Central {
     Central { next_index: 1, reports: vec![AdvReport::default(); 64], ..Central::default() }
 }
@@ -107,13 +108,13 @@ pub fn taken(c: &mut Central) -> u64 {
     frames.iter().map(|f| f.len() as u64).sum()
 }
 
-/// One more half of a number, as crates/digest has it.
+/// One more half of a number, as crates/tool_bench/src/told.rt has it.
 fn join(h: u64, half: u64) -> u64 {
     const PRIME: u64 = 4_294_967_311;
     ((h % PRIME) * 1_000_003 + half % (1 << 32)) % PRIME
 }
 
-/// What stands, as crates/bench_calls/src/told.rt has it.
+/// What stands, as crates/tool_bench/src/told.rt has it.
 pub fn told(sum: u64, c: &Central) -> u64 {
     [
         c.queue.len() as u64,
@@ -132,30 +133,61 @@ pub fn told(sum: u64, c: &Central) -> u64 {
 
 // ---- a row
 
-/// Times both sides in turn and prints the row. The order changes from round to round.
-pub fn compare(name: &str, calls: u32, rounds: usize, mut rust: impl FnMut() -> Took, mut port: impl FnMut() -> Took) {
-    let (mut best_rust, mut best_port, mut ratios) = (f64::MAX, f64::MAX, Vec::new());
-    for round in 0..rounds {
-        let (r, p) = if round % 2 == 0 {
-            let r = rust();
-            (r, port())
-        } else {
-            let p = port();
-            (rust(), p)
-        };
-        assert_eq!(r.0, p.0, "{name}: the two sides differ");
-        best_rust = best_rust.min(r.1);
-        best_port = best_port.min(p.1);
-        ratios.push(p.1 / r.1);
+/// The best time of a side, and what each round took.
+struct Side {
+    best: f64,
+    rounds: Vec<f64>,
+}
+
+impl Side {
+    fn new() -> Side {
+        Side { best: f64::MAX, rounds: Vec::new() }
     }
-    ratios.sort_by(f64::total_cmp);
-    println!(
-        "{name:48} {:6.2} of the Rust's time (median of rounds {:.2}; {:.0} ns to {:.0} ns a call)",
-        best_port / best_rust,
-        ratios[ratios.len() / 2],
-        best_port / f64::from(calls),
-        best_rust / f64::from(calls),
-    );
+
+    fn took(&mut self, ns: f64) {
+        self.best = self.best.min(ns);
+        self.rounds.push(ns);
+    }
+
+    /// The median of the rounds' own ratios to another side.
+    fn median_to(&self, other: &Side) -> f64 {
+        let mut ratios: Vec<f64> = self.rounds.iter().zip(&other.rounds).map(|(a, b)| a / b).collect();
+        ratios.sort_by(f64::total_cmp);
+        ratios[ratios.len() / 2]
+    }
+}
+
+/// Times the Rust and both forms of the port in turn and prints a row of each form. Which is first changes from round to round.
+pub fn compare(
+    name: &str,
+    calls: u32,
+    rounds: usize,
+    mut rust: impl FnMut() -> Took,
+    mut port: impl FnMut(Form) -> Took,
+) {
+    let mut sides = [Side::new(), Side::new(), Side::new()];
+    for round in 0..rounds {
+        let mut told = [0; 3];
+        for turn in 0..3 {
+            let side = (round + turn) % 3;
+            let took = if side == 0 { rust() } else { port(FORMS[side - 1].1) };
+            told[side] = took.0;
+            sides[side].took(took.1);
+        }
+        for (side, (form, _)) in FORMS.iter().enumerate() {
+            assert_eq!(told[0], told[1 + side], "{name}, {form}: the two sides differ");
+        }
+    }
+    let rust = &sides[0];
+    for (side, (form, _)) in sides[1..].iter().zip(FORMS) {
+        println!(
+            "{name:48} {form:8} {:6.2} of the Rust's time (median of rounds {:.2}; {:.0} ns to {:.0} ns a call)",
+            side.best / rust.best,
+            side.median_to(rust),
+            side.best / f64::from(calls),
+            rust.best / f64::from(calls),
+        );
+    }
 }
 
 fn option(name: &str, default: usize) -> usize {
@@ -166,9 +198,8 @@ fn option(name: &str, default: usize) -> usize {
 
 fn main() {
     let rounds = option("rounds", 200);
-    let mut l = Lent { store: vec![0; 43_631], out: vec![0; 16_315] };
+    let mut l = Lent::new();
     script::rows(&mut l, rounds);
     radio::rows(&mut l, rounds);
     link::rows(&mut l, rounds);
-    stack::rows(&mut l);
 }

@@ -1,11 +1,22 @@
 //! Advertisements, and a round of three calls.
 
-use crate::{Lent, Took, compare, known, less_set_up, running, timed, told, unlisted};
+use crate::setup::{DATA, Lent, WORDS};
+use crate::{Form, Took, compare, known, less_set_up, running, timed, told, unlisted};
 use oracle::ble::central::{AdvAction, Central, Notification, Service, Step, StepResult, StepStatus, Target};
 use std::hint::black_box;
 
 unsafe extern "C" {
-    fn bench_advertising(
+    fn lent_advertising(
+        n: u32,
+        row: u8,
+        half: bool,
+        tables: *mut [u64; WORDS],
+        store: *mut u8,
+        store_len: usize,
+        data: *const u8,
+        len: usize,
+    ) -> u64;
+    fn value_advertising(
         n: u32,
         row: u8,
         half: bool,
@@ -14,7 +25,17 @@ unsafe extern "C" {
         data: *const u8,
         len: usize,
     ) -> u64;
-    fn bench_mixed(
+    fn lent_mixed(
+        n: u32,
+        tables: *mut [u64; WORDS],
+        store: *mut u8,
+        store_len: usize,
+        out: *mut u8,
+        out_len: usize,
+        data: *const u8,
+        len: usize,
+    ) -> u64;
+    fn value_mixed(
         n: u32,
         store: *mut u8,
         store_len: usize,
@@ -25,8 +46,7 @@ unsafe extern "C" {
     ) -> u64;
 }
 
-/// Flags, three services and a name; and a scan response of one long service and a name.
-pub const DATA: [u8; 31] = *b"\x02\x01\x06\x07\x03\x0A\x18\x12\x18\x10\x18\x13\x09Head of the bay 04";
+/// A scan response of one long service and a name.
 const RESPONSE: [u8; 31] =
     *b"\x11\x07\x9E\xCA\xDC\x24\x0E\xE5\xA9\xE0\x93\xF3\xA3\xB5\x01\x00\x40\x6E\x0C\x08A long name";
 
@@ -65,7 +85,7 @@ fn after(who: u32, advertisers: u32) -> u32 {
     if who + 1 < advertisers { who + 1 } else { 0 }
 }
 
-/// Half of each table, as crates/bench_calls has it.
+/// Half of each table, as crates/tool_bench has it.
 fn half_full(c: &mut Central) {
     c.queue = vec![Step::Scan { ms: 0 }; 32];
     c.results = vec![StepResult { index: 0, at_us: 0, status: StepStatus::Ok, value: Vec::new() }; 32];
@@ -135,15 +155,28 @@ fn rust(row: Row, half: bool, round: fn(&mut Central, u32) -> u64) -> Took {
     timed(|| round(&mut c, row.advertisers()))
 }
 
-fn port_round(l: &mut Lent, n: u32, row: Row, half: bool) -> u64 {
-    // SAFETY: each pointer goes with the length of its own slice.
-    unsafe { bench_advertising(n, row as u8, half, l.store.as_mut_ptr(), l.store.len(), DATA.as_ptr(), DATA.len()) }
-}
-
-fn port_mixed(l: &mut Lent, n: u32) -> u64 {
+fn port_round(l: &mut Lent, form: Form, n: u32, row: Row, half: bool) -> u64 {
+    let (store, size) = (l.store.as_mut_ptr(), l.store.len());
+    let (data, len) = (DATA.as_ptr(), DATA.len());
     // SAFETY: each pointer goes with the length of its own slice.
     unsafe {
-        bench_mixed(n, l.store.as_mut_ptr(), l.store.len(), l.out.as_mut_ptr(), l.out.len(), DATA.as_ptr(), DATA.len())
+        match form {
+            Form::Lent => lent_advertising(n, row as u8, half, &mut *l.tables, store, size, data, len),
+            Form::ByValue => value_advertising(n, row as u8, half, store, size, data, len),
+        }
+    }
+}
+
+fn port_mixed(l: &mut Lent, form: Form, n: u32) -> u64 {
+    let (store, size) = (l.store.as_mut_ptr(), l.store.len());
+    let (out, room) = (l.out.as_mut_ptr(), l.out.len());
+    let (data, len) = (DATA.as_ptr(), DATA.len());
+    // SAFETY: each pointer goes with the length of its own slice.
+    unsafe {
+        match form {
+            Form::Lent => lent_mixed(n, &mut *l.tables, store, size, out, room, data, len),
+            Form::ByValue => value_mixed(n, store, size, out, room, data, len),
+        }
     }
 }
 
@@ -155,14 +188,14 @@ pub fn rows(l: &mut Lent, rounds: usize) {
         ("advertising, Connect, no match", Row::Connect),
     ] {
         for (tables, half) in [("tables empty", false), ("tables half full", true)] {
-            let port = || {
+            let port = |form| {
                 lend_reports(l);
-                less_set_up(CALLS, |n| port_round(l, n, row, half))
+                less_set_up(CALLS, |n| port_round(l, form, n, row, half))
             };
             compare(&format!("{name}, {tables}"), CALLS, rounds, || rust(row, half, rust_round), port);
         }
     }
-    let port = || less_set_up(CALLS, |n| port_mixed(l, n));
+    let port = |form| less_set_up(CALLS, |n| port_mixed(l, form, n));
     compare(
         "mixed: advertising, scan response, timer",
         3 * CALLS,

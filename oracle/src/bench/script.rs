@@ -1,11 +1,23 @@
 //! Batches and timer calls.
 
-use crate::{CALLS_A_SET_UP, Lent, begun, compare, less_set_up, port_states, running, rust_states, taken, timed, told};
+use crate::setup::{CALLS_A_SET_UP, Lent, WORDS};
+use crate::{Form, begun, compare, less_set_up, port_states, running, rust_states, taken, timed, told};
 use oracle::ble::central::{Central, Step};
 use std::hint::black_box;
 
 unsafe extern "C" {
-    fn bench_batches(
+    fn lent_batches(
+        n: u32,
+        ends: bool,
+        tables: *mut [u64; WORDS],
+        store: *mut u8,
+        store_len: usize,
+        out: *mut u8,
+        out_len: usize,
+        values: *const u8,
+        len: usize,
+    ) -> u64;
+    fn value_batches(
         n: u32,
         ends: bool,
         store: *mut u8,
@@ -15,7 +27,15 @@ unsafe extern "C" {
         values: *const u8,
         len: usize,
     ) -> u64;
-    fn bench_timers(n: u32, store: *mut u8, store_len: usize, out: *mut u8, out_len: usize) -> u64;
+    fn lent_timers(
+        n: u32,
+        tables: *mut [u64; WORDS],
+        store: *mut u8,
+        store_len: usize,
+        out: *mut u8,
+        out_len: usize,
+    ) -> u64;
+    fn value_timers(n: u32, store: *mut u8, store_len: usize, out: *mut u8, out_len: usize) -> u64;
 }
 
 const WAIT: Step = Step::Wait { ms: 1 };
@@ -46,16 +66,29 @@ fn waiting() -> Central {
     Central { running: running(WAIT, 1000, 0), queue: vec![WAIT; CALLS_A_SET_UP as usize], ..begun() }
 }
 
-fn port_batches(l: &mut Lent, n: u32, ends: bool) -> u64 {
+fn port_batches(l: &mut Lent, form: Form, n: u32, ends: bool) -> u64 {
+    let (store, size) = (l.store.as_mut_ptr(), l.store.len());
+    let (out, room) = (l.out.as_mut_ptr(), l.out.len());
+    let values = [].as_ptr();
     // SAFETY: each pointer goes with the length of its own slice.
     unsafe {
-        bench_batches(n, ends, l.store.as_mut_ptr(), l.store.len(), l.out.as_mut_ptr(), l.out.len(), [].as_ptr(), 0)
+        match form {
+            Form::Lent => lent_batches(n, ends, &mut *l.tables, store, size, out, room, values, 0),
+            Form::ByValue => value_batches(n, ends, store, size, out, room, values, 0),
+        }
     }
 }
 
-fn port_timers(l: &mut Lent, n: u32) -> u64 {
+fn port_timers(l: &mut Lent, form: Form, n: u32) -> u64 {
+    let (store, size) = (l.store.as_mut_ptr(), l.store.len());
+    let (out, room) = (l.out.as_mut_ptr(), l.out.len());
     // SAFETY: each pointer goes with the length of its own slice.
-    unsafe { bench_timers(n, l.store.as_mut_ptr(), l.store.len(), l.out.as_mut_ptr(), l.out.len()) }
+    unsafe {
+        match form {
+            Form::Lent => lent_timers(n, &mut *l.tables, store, size, out, room),
+            Form::ByValue => value_timers(n, store, size, out, room),
+        }
+    }
 }
 
 pub fn rows(l: &mut Lent, rounds: usize) {
@@ -67,10 +100,11 @@ pub fn rows(l: &mut Lent, rounds: usize) {
             let batches = vec![vec![step.clone(); 64]; BATCHES as usize];
             timed(|| rust_batches(batches))
         };
-        compare(name, BATCHES, rounds, rust, || less_set_up(BATCHES, |n| port_batches(l, n, ends)));
+        let port = |form| less_set_up(BATCHES, |n| port_batches(l, form, n, ends));
+        compare(name, BATCHES, rounds, rust, port);
     }
     const STATES: u32 = 10;
     let rust = || rust_states(STATES, waiting, rust_timers);
-    let port = || port_states(STATES, CALLS_A_SET_UP, |n| port_timers(l, n));
+    let port = |form| port_states(STATES, CALLS_A_SET_UP, |n| port_timers(l, form, n));
     compare("a timer call that ends a step", CALLS_A_SET_UP * STATES, rounds, rust, port);
 }
