@@ -1,16 +1,37 @@
 /*
- * barleyrope.h - Bluetooth LE advertising search and connection parameter test
+ * barleyrope.h - a scripted Bluetooth LE central, for C
  *
- * Link with the archive libcollector.a; it needs no other library, not even the C library.
- * The archive is x86-64 Linux code (System V calling convention).
+ * You own a state, a store and an output buffer. You tell the library what happened (a batch of
+ * steps, a timer, a link, a fragment, an advertisement), and it writes the frames to send to your
+ * output buffer and tells you what else to do. It never waits, sleeps, sends or allocates.
  *
- * All functions
- *   - answer on every input that the argument descriptions below allow; there is no error state,
- *     no errno, no abort and no undefined result;
- *   - allocate nothing, keep no pointer after they return and have no global state, so any number
- *     of threads (and signal handlers) may call them at the same time, as long as nobody writes to
- *     the bytes or places lent to a call while it runs;
- *   - are proved equal to a definition written from the Bluetooth Core Specification.
+ *     static barleyrope_state state;                       // all zero is a fresh one
+ *     static uint8_t store[BARLEYROPE_STORE_SIZE];         // any contents
+ *     static uint8_t out[BARLEYROPE_OUTPUT_SIZE];
+ *
+ *     barleyrope_step steps[] = { barleyrope_scan(1000), barleyrope_connect_any(24, 0, 100, 5000) };
+ *     barleyrope_answer a = barleyrope_push_steps(&state, store, sizeof store, out, sizeof out,
+ *                                                 now_us, steps, 2, NULL, 0);
+ *     if (a.refusal) puts(barleyrope_refusal_text(a.refusal));
+ *
+ * docs/COLLECTOR.md goes from an empty file to a first reading, and examples/collector.c is one. Link
+ * with libbarleyrope.a; of the C library it needs memcpy, memmove and memset at most.
+ *
+ * Every call
+ *   - answers on every state, store and argument: there is no errno, no abort, no undefined result.
+ *     What can't be done gets a refusal (below), and state, store and output are as they were.
+ *     Refusal 7 alone also drops the bytes held of the frame that is too long;
+ *   - allocates nothing, keeps no pointer after it returns, and has no global state: calls on
+ *     different states may run in different threads at the same time;
+ *   - needs the state, the store and every buffer to be apart: none may overlap another;
+ *   - takes NULL for a buffer of length 0, and for nothing else;
+ *   - is proved equal to a definition (docs/PROMISES.md). The static functions in this file are plain C
+ *     around the proved ones: they turn numbers into structs, and tests/c tries them.
+ *
+ * Any bytes may be handed in as a state: one that is not fit (a count, a length or a number out of its
+ * range) gets refusal 1, every other an ordinary answer. That is no checksum: a state that was
+ * overwritten may still be fit. A state may be saved and restored as bytes, together with its store, by
+ * the same version of the library on a machine of the same byte order.
  */
 #ifndef BARLEYROPE_H
 #define BARLEYROPE_H
@@ -23,8 +44,86 @@
 extern "C" {
 #endif
 
+#define BARLEYROPE_VERSION_MAJOR 1
+#define BARLEYROPE_VERSION_MINOR 0
+#define BARLEYROPE_VERSION "1.0"
+
+/* The store has exactly this size; the output has at least this one. */
+#define BARLEYROPE_STORE_SIZE 43631
+#define BARLEYROPE_OUTPUT_SIZE 16315
+
+#define BARLEYROPE_CORE_WORDS 34
+#define BARLEYROPE_TABLE_WORDS 1056
+
+/* 8,720 bytes. All zero is a fresh state: nothing queued, kept, heard or linked. */
+typedef struct barleyrope_state {
+    uint64_t core[BARLEYROPE_CORE_WORDS];
+    uint64_t tables[BARLEYROPE_TABLE_WORDS];
+} barleyrope_state;
+
+/* ---- refusals: why a call did nothing -------------------------------------------------------- */
+
+enum {
+    BARLEYROPE_ACCEPTED = 0,
+    BARLEYROPE_UNFIT = 1,        /* the state is not one that calls leave */
+    BARLEYROPE_WRONG_SIZE = 2,   /* the store is not of its size, or the output is too short */
+    BARLEYROPE_LATE_TIME = 3,    /* the time is above 2^62 microseconds */
+    BARLEYROPE_BAD_BATCH = 4,    /* over 64 steps; an MTU over 247; a value over 244 bytes or outside values */
+    BARLEYROPE_COUNTER_FULL = 5, /* a counter is at its end: begin a new state */
+    BARLEYROPE_LONG_DATA = 6,    /* advertising or scan response data over 31 bytes */
+    BARLEYROPE_LONG_FRAME = 7,   /* a frame over 251 bytes; what was held of it is dropped */
+    BARLEYROPE_KEYS_FULL = 8     /* a Scan has asked 128 advertisers already */
+};
+
+/* One line in English for a log; never NULL. */
+static inline const char *barleyrope_refusal_text(int refusal)
+{
+    switch (refusal) {
+    case BARLEYROPE_ACCEPTED: return "accepted";
+    case BARLEYROPE_UNFIT: return "the state is not fit: it was not left by a call";
+    case BARLEYROPE_WRONG_SIZE: return "the store is not 43631 bytes, or the output is under 16315";
+    case BARLEYROPE_LATE_TIME: return "the time is above 2^62 microseconds";
+    case BARLEYROPE_BAD_BATCH: return "over 64 steps, an MTU over 247, or a value too long or outside values";
+    case BARLEYROPE_COUNTER_FULL: return "a counter is at its end";
+    case BARLEYROPE_LONG_DATA: return "advertising or scan response data over 31 bytes";
+    case BARLEYROPE_LONG_FRAME: return "a frame over 251 bytes; the bytes held of it are dropped";
+    case BARLEYROPE_KEYS_FULL: return "the running scan has asked 128 advertisers already";
+    default: return "no such refusal";
+    }
+}
+
+/* ---- how a step ended ------------------------------------------------------------------------ */
+
+enum {
+    BARLEYROPE_OK = 0,
+    BARLEYROPE_TIMEOUT = 1,
+    BARLEYROPE_NOT_CONNECTED = 2,
+    BARLEYROPE_NOT_FOUND = 3,
+    BARLEYROPE_ATT_ERROR = 4, /* the head's error code stands beside it */
+    BARLEYROPE_TOO_LONG = 5,
+    BARLEYROPE_DISCONNECTED = 6,
+    BARLEYROPE_TABLE_FULL = 7
+};
+
+static inline const char *barleyrope_status_text(int status)
+{
+    switch (status) {
+    case BARLEYROPE_OK: return "ok";
+    case BARLEYROPE_TIMEOUT: return "no answer in time";
+    case BARLEYROPE_NOT_CONNECTED: return "there is no link";
+    case BARLEYROPE_NOT_FOUND: return "no such service, characteristic or descriptor is known";
+    case BARLEYROPE_ATT_ERROR: return "the head answered with an error";
+    case BARLEYROPE_TOO_LONG: return "the value is longer than the link's MTU allows";
+    case BARLEYROPE_DISCONNECTED: return "the link was lost";
+    case BARLEYROPE_TABLE_FULL: return "the head has more services or characteristics than there are places";
+    default: return "no such status";
+    }
+}
+
+/* ---- UUIDs ----------------------------------------------------------------------------------- */
+
 /*
- * A UUID is passed as two 64-bit halves of its 128-bit number. In the usual text form
+ * A UUID is two 64-bit halves of its 128-bit number. In the usual text form
  *
  *     6E400001-B5A3-F393-E0A9-E50E24DCCA9E
  *     \----- high -----/ \----- low -----/
@@ -37,6 +136,10 @@ extern "C" {
  *
  * In every call low comes BEFORE high.
  */
+typedef struct barleyrope_uuid {
+    uint64_t low;
+    uint64_t high;
+} barleyrope_uuid;
 
 /*
  * The halves of a 16-bit or 32-bit UUID, such as 0x180F for the Battery Service: the Bluetooth Base
@@ -46,6 +149,904 @@ extern "C" {
  */
 #define BARLEYROPE_SHORT_LOW UINT64_C(0x800000805F9B34FB)
 #define BARLEYROPE_SHORT_HIGH(number) (((uint64_t)(uint32_t)(number) << 32) | UINT64_C(0x1000))
+
+/* The UUID of two halves, of a 16-bit or 32-bit number; whether two are one. */
+static inline barleyrope_uuid barleyrope_uuid_of(uint64_t high, uint64_t low)
+{
+    barleyrope_uuid uuid;
+    uuid.low = low;
+    uuid.high = high;
+    return uuid;
+}
+
+static inline barleyrope_uuid barleyrope_short_uuid(uint32_t number)
+{
+    return barleyrope_uuid_of(BARLEYROPE_SHORT_HIGH(number), BARLEYROPE_SHORT_LOW);
+}
+
+static inline bool barleyrope_same_uuid(barleyrope_uuid one, barleyrope_uuid other)
+{
+    return one.low == other.low && one.high == other.high;
+}
+
+/* The value of a hex digit, or -1. */
+static inline int barleyrope_hex_value(char digit)
+{
+    if (digit >= '0' && digit <= '9')
+        return digit - '0';
+    if (digit >= 'A' && digit <= 'F')
+        return digit - 'A' + 10;
+    if (digit >= 'a' && digit <= 'f')
+        return digit - 'a' + 10;
+    return -1;
+}
+
+/*
+ * Reads a UUID: 4 hex digits ("180F"), or 36 characters with hyphens at 8, 13, 18 and 23. Letters of
+ * either case; nothing before or after.
+ *
+ *   text   ends with a NUL; NULL is no UUID
+ *   uuid   on true, set; on false, left alone
+ *
+ * Returns whether the text is a UUID.
+ */
+static inline bool barleyrope_uuid_from_text(const char *text, barleyrope_uuid *uuid)
+{
+    uint64_t half[2] = {0, 0}; /* high, low */
+    unsigned at, digits = 0;
+    if (text == NULL)
+        return false;
+    for (at = 0; at < 36 && text[at] != '\0'; at++) {
+        int value = barleyrope_hex_value(text[at]);
+        if (at == 8 || at == 13 || at == 18 || at == 23) {
+            if (text[at] != '-')
+                return false;
+            continue;
+        }
+        if (value < 0)
+            return false;
+        half[digits / 16] = (half[digits / 16] << 4) | (uint64_t)value;
+        digits++;
+    }
+    if (at == 4) {
+        *uuid = barleyrope_short_uuid((uint32_t)half[0]);
+        return true;
+    }
+    if (at != 36 || text[36] != '\0')
+        return false;
+    *uuid = barleyrope_uuid_of(half[0], half[1]);
+    return true;
+}
+
+/* The room for a UUID's text, with its NUL. */
+#define BARLEYROPE_UUID_TEXT 37
+
+/*
+ * Writes a UUID as 4 upper case hex digits if it is a 16-bit one, else as 36 characters, and a NUL.
+ * barleyrope_uuid_from_text reads it back. Returns text.
+ */
+static inline char *barleyrope_uuid_to_text(barleyrope_uuid uuid, char text[BARLEYROPE_UUID_TEXT])
+{
+    const char *hex = "0123456789ABCDEF";
+    const bool is_short = uuid.low == BARLEYROPE_SHORT_LOW &&
+                          (uuid.high & UINT64_C(0xFFFF0000FFFFFFFF)) == UINT64_C(0x1000);
+    unsigned at = 0, digit;
+    for (digit = is_short ? 4 : 0; digit < (is_short ? 8U : 32U); digit++) {
+        uint64_t half = digit < 16 ? uuid.high : uuid.low;
+        if (!is_short && (digit == 8 || digit == 12 || digit == 16 || digit == 20))
+            text[at++] = '-';
+        text[at++] = hex[(half >> (60 - 4 * (digit % 16))) & 15];
+    }
+    text[at] = '\0';
+    return text;
+}
+
+/* ---- device addresses ------------------------------------------------------------------------ */
+
+/*
+ * A device address is a 48-bit number and its type. AA:BB:CC:DD:EE:FF is 0xAABBCCDDEEFF. Two
+ * addresses of one number and different types are different devices.
+ */
+typedef struct barleyrope_address {
+    uint64_t number; /* the low 48 bits count */
+    bool random;     /* a random address; otherwise a public one */
+} barleyrope_address;
+
+static inline barleyrope_address barleyrope_address_of(uint64_t number, bool random)
+{
+    barleyrope_address address;
+    address.number = number & UINT64_C(0xFFFFFFFFFFFF);
+    address.random = random;
+    return address;
+}
+
+/* From the 6 octets of a packet or an HCI event, where FF of the text form comes first. */
+static inline barleyrope_address barleyrope_address_from_octets(const uint8_t octets[6], bool random)
+{
+    uint64_t number = 0;
+    int i;
+    for (i = 5; i >= 0; i--)
+        number = (number << 8) | octets[i];
+    return barleyrope_address_of(number, random);
+}
+
+/*
+ * Reads an address: AA:BB:CC:DD:EE:FF, letters of either case, nothing before or after. The text
+ * does not say the type.
+ *
+ *   text      ends with a NUL; NULL is no address
+ *   address   on true, set; on false, left alone
+ *
+ * Returns whether the text is an address.
+ */
+static inline bool barleyrope_address_from_text(const char *text, bool random, barleyrope_address *address)
+{
+    uint64_t number = 0;
+    unsigned at;
+    if (text == NULL)
+        return false;
+    for (at = 0; at < 17; at++) {
+        int value = barleyrope_hex_value(text[at]);
+        if (at % 3 == 2 ? text[at] != ':' : value < 0)
+            return false; /* at the NUL of a shorter text too */
+        if (at % 3 != 2)
+            number = (number << 4) | (uint64_t)value;
+    }
+    if (text[17] != '\0')
+        return false;
+    *address = barleyrope_address_of(number, random);
+    return true;
+}
+
+/* The room for an address's text, with its NUL. */
+#define BARLEYROPE_ADDRESS_TEXT 18
+
+/* Writes AA:BB:CC:DD:EE:FF, in upper case, and a NUL. Returns text. */
+static inline char *barleyrope_address_to_text(barleyrope_address address, char text[BARLEYROPE_ADDRESS_TEXT])
+{
+    const char *hex = "0123456789ABCDEF";
+    unsigned at;
+    for (at = 0; at < 17; at++)
+        text[at] = at % 3 == 2 ? ':' : hex[(address.number >> (44 - 4 * (at - at / 3))) & 15];
+    text[17] = '\0';
+    return text;
+}
+
+/* The address as the exports take it: bit 48 says that it is random. */
+static inline uint64_t barleyrope_address_word(barleyrope_address address)
+{
+    return (address.number & UINT64_C(0xFFFFFFFFFFFF)) | ((uint64_t)(address.random ? 1 : 0) << 48);
+}
+
+/* ---- steps ----------------------------------------------------------------------------------- */
+
+enum {
+    BARLEYROPE_STEP_SCAN = 0,
+    BARLEYROPE_STEP_CONNECT = 1,
+    BARLEYROPE_STEP_EXCHANGE_MTU = 2,
+    BARLEYROPE_STEP_DISCOVER_SERVICES = 3,
+    BARLEYROPE_STEP_DISCOVER_CHARACTERISTICS = 4,
+    BARLEYROPE_STEP_SUBSCRIBE = 5,
+    BARLEYROPE_STEP_WRITE = 6,
+    BARLEYROPE_STEP_READ = 7,
+    BARLEYROPE_STEP_WAIT_NOTIFICATION = 8,
+    BARLEYROPE_STEP_WAIT = 9,
+    BARLEYROPE_STEP_DISCONNECT = 10,
+    BARLEYROPE_STEP_CAPTURE = 11,
+    BARLEYROPE_STEP_CAPTURE_SECRETS = 12
+};
+
+static inline const char *barleyrope_kind_text(uint64_t kind)
+{
+    switch (kind) {
+    case BARLEYROPE_STEP_SCAN: return "scan";
+    case BARLEYROPE_STEP_CONNECT: return "connect";
+    case BARLEYROPE_STEP_EXCHANGE_MTU: return "exchange MTU";
+    case BARLEYROPE_STEP_DISCOVER_SERVICES: return "discover services";
+    case BARLEYROPE_STEP_DISCOVER_CHARACTERISTICS: return "discover characteristics";
+    case BARLEYROPE_STEP_SUBSCRIBE: return "subscribe";
+    case BARLEYROPE_STEP_WRITE: return "write";
+    case BARLEYROPE_STEP_READ: return "read";
+    case BARLEYROPE_STEP_WAIT_NOTIFICATION: return "wait for a notification";
+    case BARLEYROPE_STEP_WAIT: return "wait";
+    case BARLEYROPE_STEP_DISCONNECT: return "disconnect";
+    case BARLEYROPE_STEP_CAPTURE: return "capture";
+    case BARLEYROPE_STEP_CAPTURE_SECRETS: return "capture secrets";
+    default: return "no such step";
+    }
+}
+
+/*
+ * One step of a script. It is data: nothing happens until barleyrope_push_steps takes it, and then
+ * when its turn comes. The functions below make one; its fields need not be known.
+ *
+ * Steps run one at a time, in the order taken in, and each gets exactly one result. Beside the
+ * statuses named below, every step that needs a link ends with
+ *   NOT_CONNECTED   at once, if there is no link when its turn comes
+ *   DISCONNECTED    if the link is lost while it runs
+ * and each that asks the head something (exchange, both discoveries, subscribe, write with
+ * response, read) with
+ *   ATT_ERROR       if the head answers with an error (but for 0A, attribute not found, at the end of
+ *                   what is discovered)
+ *   TIMEOUT         30 seconds after the last request, by a timer call
+ */
+typedef struct barleyrope_step {
+    uint64_t kind, flag, ms, mtu, low, high, aim, latency, timeout, interval, value_at, value_len;
+} barleyrope_step;
+
+#define BARLEYROPE_STEP_WORDS 12
+#define BARLEYROPE_MAX_STEPS 64  /* of a batch, and waiting */
+#define BARLEYROPE_MAX_VALUE 244 /* bytes to write, or to wait for */
+#define BARLEYROPE_MAX_MTU 247
+
+typedef char barleyrope_step_is_its_words[sizeof(barleyrope_step) == 8 * BARLEYROPE_STEP_WORDS ? 1 : -1];
+
+static inline barleyrope_step barleyrope_step_of(uint64_t kind, bool flag, uint32_t ms, barleyrope_uuid uuid)
+{
+    barleyrope_step step = {0, 0, 0, 0, 0, 0, 0, 0, 0, 0, 0, 0};
+    step.kind = kind;
+    step.flag = flag ? 1 : 0;
+    step.ms = ms;
+    step.low = uuid.low;
+    step.high = uuid.high;
+    return step;
+}
+
+/* Collects reports of advertisers for ms milliseconds. Ends OK. Needs no link. */
+static inline barleyrope_step barleyrope_scan(uint32_t ms)
+{
+    return barleyrope_step_of(BARLEYROPE_STEP_SCAN, false, ms, barleyrope_uuid_of(0, 0));
+}
+
+static inline barleyrope_step barleyrope_connect_to(uint64_t aim, barleyrope_uuid to, uint16_t interval,
+                                                    uint16_t latency, uint16_t timeout, uint32_t within_ms)
+{
+    barleyrope_step step = barleyrope_step_of(BARLEYROPE_STEP_CONNECT, false, within_ms, to);
+    step.aim = aim;
+    step.interval = interval;
+    step.latency = latency;
+    step.timeout = timeout;
+    return step;
+}
+
+/*
+ * Connects to the first connectable advertiser that is heard: to any, to the one of an address, or
+ * to one that lists a service in its advertising data or scan response. A link that is there
+ * already will do, whoever it is to: disconnect first.
+ *
+ *   interval    between connection events, in units of 1.25 ms: 24 is 30 ms
+ *   latency     events that the head may skip
+ *   timeout     after which a silent link is lost, in units of 10 ms: 100 is 1 s
+ *   within_ms   how long to try
+ *
+ * The first three are handed to you again with BARLEYROPE_ACTION_CONNECT, unchecked:
+ * barleyrope_params_good(interval, interval, latency, timeout) tells whether they may be used.
+ * Ends OK with barleyrope_on_connected, or TIMEOUT. Needs no link.
+ */
+static inline barleyrope_step barleyrope_connect_any(uint16_t interval, uint16_t latency, uint16_t timeout,
+                                                     uint32_t within_ms)
+{
+    return barleyrope_connect_to(0, barleyrope_uuid_of(0, 0), interval, latency, timeout, within_ms);
+}
+
+static inline barleyrope_step barleyrope_connect_address(barleyrope_address address, uint16_t interval,
+                                                         uint16_t latency, uint16_t timeout, uint32_t within_ms)
+{
+    return barleyrope_connect_to(1, barleyrope_uuid_of(0, barleyrope_address_word(address)), interval, latency,
+                                 timeout, within_ms);
+}
+
+static inline barleyrope_step barleyrope_connect_service(barleyrope_uuid service, uint16_t interval,
+                                                         uint16_t latency, uint16_t timeout, uint32_t within_ms)
+{
+    return barleyrope_connect_to(2, service, interval, latency, timeout, within_ms);
+}
+
+/*
+ * Offers the head an MTU, at most 247; under 23 means 23. From its answer on, the link's MTU is the
+ * smaller of both sides'. A new link begins with 23. Ends OK.
+ */
+static inline barleyrope_step barleyrope_exchange_mtu(uint16_t mtu)
+{
+    barleyrope_step step =
+        barleyrope_step_of(BARLEYROPE_STEP_EXCHANGE_MTU, false, 0, barleyrope_uuid_of(0, 0));
+    step.mtu = mtu;
+    return step;
+}
+
+/*
+ * Forgets all services and characteristics, and finds the head's services (32 at most). They are
+ * kept over a lost link. Ends OK, or TABLE_FULL.
+ */
+static inline barleyrope_step barleyrope_discover_services(void)
+{
+    return barleyrope_step_of(BARLEYROPE_STEP_DISCOVER_SERVICES, false, 0, barleyrope_uuid_of(0, 0));
+}
+
+/*
+ * Finds the characteristics of a service (64 at most, of all services) and where each is
+ * configured; first the services, where this one is not known. Ends OK, NOT_FOUND if the head has
+ * no such service, or TABLE_FULL.
+ */
+static inline barleyrope_step barleyrope_discover_characteristics(barleyrope_uuid service)
+{
+    return barleyrope_step_of(BARLEYROPE_STEP_DISCOVER_CHARACTERISTICS, false, 0, service);
+}
+
+/*
+ * Asks the head to notify a characteristic, or to indicate it. Ends OK, or NOT_FOUND if no such
+ * characteristic, or no place to configure it, was discovered.
+ */
+static inline barleyrope_step barleyrope_subscribe(barleyrope_uuid characteristic, bool indicate)
+{
+    return barleyrope_step_of(BARLEYROPE_STEP_SUBSCRIBE, indicate, 0, characteristic);
+}
+
+/*
+ * Writes a value: value_len bytes (244 at most) from value_at on, of the values handed in with the
+ * batch. With response it ends when the head has answered, else at once. Ends OK, NOT_FOUND if the
+ * characteristic was not discovered, or TOO_LONG if value_len + 3 exceeds the link's MTU.
+ */
+static inline barleyrope_step barleyrope_write(barleyrope_uuid characteristic, bool with_response,
+                                               size_t value_at, size_t value_len)
+{
+    barleyrope_step step = barleyrope_step_of(BARLEYROPE_STEP_WRITE, with_response, 0, characteristic);
+    step.value_at = value_at;
+    step.value_len = value_len;
+    return step;
+}
+
+/*
+ * Reads a value; the result has it, as much as one answer holds (the link's MTU - 1 bytes at most).
+ * Ends OK, or NOT_FOUND if the characteristic was not discovered.
+ */
+static inline barleyrope_step barleyrope_read(barleyrope_uuid characteristic)
+{
+    return barleyrope_step_of(BARLEYROPE_STEP_READ, false, 0, characteristic);
+}
+
+/*
+ * Waits until a characteristic was notified or indicated, within_ms at most. With contains_len = 0
+ * any notification will do; else the values of all that count, joined, must contain the
+ * contains_len bytes (244 at most) from contains_at on, of the values handed in with the batch.
+ *
+ * What counts is every kept notification (the newest 32) that came after the last wait passed. IT
+ * MAY BE OLD: one that came before this step began counts, even one of an earlier link. The result
+ * has no value, and its time is when the wait ended, not when the notification came. A read behind
+ * the wait gives a value that is the head's own answer on this link (docs/COLLECTOR.md).
+ *
+ * Ends OK, TIMEOUT, or NOT_FOUND if the characteristic was not discovered. Passing uses up every
+ * notification heard so far, of other characteristics too.
+ */
+static inline barleyrope_step barleyrope_wait_notification(barleyrope_uuid characteristic, uint32_t within_ms,
+                                                           size_t contains_at, size_t contains_len)
+{
+    barleyrope_step step =
+        barleyrope_step_of(BARLEYROPE_STEP_WAIT_NOTIFICATION, false, within_ms, characteristic);
+    step.value_at = contains_at;
+    step.value_len = contains_len;
+    return step;
+}
+
+/* Lets ms milliseconds pass. Ends OK. Needs no link, and goes on when one is lost. */
+static inline barleyrope_step barleyrope_wait(uint32_t ms)
+{
+    return barleyrope_step_of(BARLEYROPE_STEP_WAIT, false, ms, barleyrope_uuid_of(0, 0));
+}
+
+/*
+ * Asks you to end the link (BARLEYROPE_REQUEST_TERMINATE), and ends OK with
+ * barleyrope_on_disconnected. It has no deadline: call that also when the link is lost otherwise.
+ */
+static inline barleyrope_step barleyrope_disconnect(void)
+{
+    return barleyrope_step_of(BARLEYROPE_STEP_DISCONNECT, false, 0, barleyrope_uuid_of(0, 0));
+}
+
+/* For scripts that carry them: these two do nothing here and end OK at once. Need no link. */
+static inline barleyrope_step barleyrope_capture(bool enabled)
+{
+    return barleyrope_step_of(BARLEYROPE_STEP_CAPTURE, enabled, 0, barleyrope_uuid_of(0, 0));
+}
+
+static inline barleyrope_step barleyrope_capture_secrets(bool secrets)
+{
+    return barleyrope_step_of(BARLEYROPE_STEP_CAPTURE_SECRETS, secrets, 0, barleyrope_uuid_of(0, 0));
+}
+
+/* ---- the exports ----------------------------------------------------------------------------- */
+
+/*
+ * What libbarleyrope.a has for the functions below, which are easier to call: you need not read
+ * this part. core and tables are those of a state. Every call writes all of told; told[0] is the
+ * refusal, and words that an answer does not use are 0.
+ */
+
+/* told: refusal, frames, bytes, request, interval, latency, timeout, reason.
+ * steps_len is in words, BARLEYROPE_STEP_WORDS times count. */
+void barleyrope_push_steps_words(uint64_t core[34], uint64_t tables[1056], uint8_t *store, size_t store_len,
+                                 uint8_t *out, size_t out_len, uint64_t at, const uint64_t *steps,
+                                 size_t steps_len, size_t count, const uint8_t *values, size_t values_len,
+                                 uint64_t told[8]);
+void barleyrope_on_timer_words(uint64_t core[34], uint64_t tables[1056], uint8_t *store, size_t store_len,
+                               uint8_t *out, size_t out_len, uint64_t at, uint64_t told[8]);
+void barleyrope_on_connected_words(uint64_t core[34], uint64_t tables[1056], uint8_t *store, size_t store_len,
+                                   uint8_t *out, size_t out_len, uint16_t handle, uint64_t at,
+                                   uint64_t told[8]);
+void barleyrope_on_fragment_words(uint64_t core[34], uint64_t tables[1056], uint8_t *store, size_t store_len,
+                                  uint8_t *out, size_t out_len, uint64_t at, bool start,
+                                  const uint8_t *fragment, size_t fragment_len, uint64_t told[8]);
+
+/* told: refusal. */
+void barleyrope_on_disconnected_words(uint64_t core[34], uint64_t tables[1056], uint8_t *store,
+                                      size_t store_len, uint64_t at, uint64_t told[8]);
+void barleyrope_on_scan_response_words(uint64_t core[34], uint64_t tables[1056], uint8_t *store,
+                                       size_t store_len, uint64_t at, uint64_t address, const uint8_t *data,
+                                       size_t data_len, uint64_t told[8]);
+
+/* told: refusal, action, interval, latency, timeout. */
+void barleyrope_on_advertising_words(uint64_t core[34], uint64_t tables[1056], uint8_t *store,
+                                     size_t store_len, uint64_t at, uint8_t channel, uint8_t pdu,
+                                     uint64_t address, const uint8_t *data, size_t data_len, bool to_central,
+                                     uint64_t told[8]);
+
+/* told: refusal, 1 if there is one, the deadline; or the handle. */
+void barleyrope_timer_us_words(const uint64_t core[34], const uint64_t tables[1056], const uint8_t *store,
+                               size_t store_len, uint64_t told[8]);
+void barleyrope_connected_handle_words(const uint64_t core[34], const uint64_t tables[1056],
+                                       const uint8_t *store, size_t store_len, uint64_t told[8]);
+
+/* told: refusal, 1 if it is kept, time, status, ATT error code, place and length in the store. */
+void barleyrope_result_words(const uint64_t core[34], const uint64_t tables[1056], const uint8_t *store,
+                             size_t store_len, uint32_t index, uint64_t told[8]);
+
+/* told: refusal, 1 if it is kept, time, channel, PDU type, address, place and length of the data, 1 if
+ * there is a scan response, its place and length. */
+void barleyrope_report_words(const uint64_t core[34], const uint64_t tables[1056], const uint8_t *store,
+                             size_t store_len, size_t i, uint64_t told[12]);
+
+/* told: refusal, 1 if they are there, place and length in the store. */
+void barleyrope_report_data_words(const uint64_t core[34], const uint64_t tables[1056], const uint8_t *store,
+                                  size_t store_len, size_t i, uint64_t told[8]);
+void barleyrope_report_response_words(const uint64_t core[34], const uint64_t tables[1056],
+                                      const uint8_t *store, size_t store_len, size_t i, uint64_t told[8]);
+void barleyrope_report_body_words(const uint64_t core[34], const uint64_t tables[1056], const uint8_t *store,
+                                  size_t store_len, size_t i, uint64_t low, uint64_t high, uint64_t told[8]);
+
+/* ---- calls: something happened --------------------------------------------------------------- */
+
+/* What a call asks of the link, at most one thing. */
+enum {
+    BARLEYROPE_REQUEST_NONE = 0,
+    BARLEYROPE_REQUEST_UPDATE = 1,   /* give the link interval, latency and timeout */
+    BARLEYROPE_REQUEST_TERMINATE = 2 /* end the link, for this reason (0x13) */
+};
+
+/*
+ * The answer of a call that may send. Send the frames in their order before the next call. Each is
+ * a whole L2CAP frame with its header:
+ *
+ *     size_t at, len;
+ *     for (at = 0; at < a.bytes; at += len) {
+ *         len = barleyrope_frame_size(out + at);
+ *         your_radio_send(handle, out + at, len);
+ *     }
+ *
+ * Bytes of out behind a.bytes are as they were.
+ */
+typedef struct barleyrope_answer {
+    int refusal;       /* BARLEYROPE_ACCEPTED, or why nothing was done; all others are 0 then */
+    size_t frames;     /* how many frames are in out, 65 at most */
+    size_t bytes;      /* and their bytes */
+    int request;       /* BARLEYROPE_REQUEST_.. */
+    uint16_t interval; /* of an update: in units of 1.25 ms, */
+    uint16_t latency;  /* in connection events, */
+    uint16_t timeout;  /* in units of 10 ms */
+    uint8_t reason;    /* of a termination */
+} barleyrope_answer;
+
+/* The bytes of the frame that begins here. */
+static inline size_t barleyrope_frame_size(const uint8_t *frame)
+{
+    return (size_t)4 + frame[0] + ((size_t)frame[1] << 8);
+}
+
+static inline barleyrope_answer barleyrope_answer_of(const uint64_t told[8])
+{
+    barleyrope_answer answer;
+    answer.refusal = (int)told[0];
+    answer.frames = (size_t)told[1];
+    answer.bytes = (size_t)told[2];
+    answer.request = (int)told[3];
+    answer.interval = (uint16_t)told[4];
+    answer.latency = (uint16_t)told[5];
+    answer.timeout = (uint16_t)told[6];
+    answer.reason = (uint8_t)told[7];
+    return answer;
+}
+
+/*
+ * All calls below have these in common:
+ *
+ *   state        read and changed
+ *   store        read and changed; store_size is BARLEYROPE_STORE_SIZE exactly, or refusal 2. It belongs
+ *                to its state: give both the same calls, and keep, copy and restore them together.
+ *   out          written from its start; out_size is at least BARLEYROPE_OUTPUT_SIZE, or refusal 2
+ *   now_us       the time in microseconds, on a clock of yours that may begin anywhere; at most 2^62, or
+ *                refusal 3. It may run back: deadlines then come late.
+ *   refusal 1    the state is not one that calls leave: begin a new one, all zero
+ */
+
+/*
+ * Takes in a batch of steps, behind those that wait, and lets the script go on.
+ *
+ *   steps, count   at most 64
+ *   values         the bytes that writes and waits of the batch name by place and length; copied
+ *
+ * Where 64 steps wait, further ones are not taken in, with no refusal: barleyrope_dropped_steps counts
+ * them. barleyrope_steps_waiting tells the room before.
+ *
+ * Refusals: 1, 2, 3; 4 over 64 steps, an MTU over 247, a value over 244 bytes or not within values;
+ * 5 results would be numbered beyond 2^32 - 1, or 2^62 steps were dropped: begin a new state.
+ */
+static inline barleyrope_answer barleyrope_push_steps(barleyrope_state *state, uint8_t *store, size_t store_size,
+                                                      uint8_t *out, size_t out_size, uint64_t now_us,
+                                                      const barleyrope_step *steps, size_t count,
+                                                      const uint8_t *values, size_t values_size)
+{
+    uint64_t told[8];
+    /* a batch that is too long is refused by its count: its steps are not looked at */
+    size_t words = count <= BARLEYROPE_MAX_STEPS ? BARLEYROPE_STEP_WORDS * count : 0;
+    barleyrope_push_steps_words(state->core, state->tables, store, store_size, out, out_size, now_us,
+                                (const uint64_t *)(const void *)steps, words, count, values, values_size, told);
+    return barleyrope_answer_of(told);
+}
+
+/*
+ * The clock reached a time. A running step whose deadline is now or before ends, and the script goes on.
+ * Call it when barleyrope_get_timer says; earlier does no harm and does nothing.
+ *
+ * Refusals: 1, 2, 3.
+ */
+static inline barleyrope_answer barleyrope_on_timer(barleyrope_state *state, uint8_t *store, size_t store_size,
+                                                    uint8_t *out, size_t out_size, uint64_t now_us)
+{
+    uint64_t told[8];
+    barleyrope_on_timer_words(state->core, state->tables, store, store_size, out, out_size, now_us, told);
+    return barleyrope_answer_of(told);
+}
+
+/*
+ * A link came up. It takes the place of one that was there. A running connect ends OK.
+ *
+ *   handle   the controller's handle of the link; kept for barleyrope_get_link
+ *
+ * Refusals: 1, 2, 3.
+ */
+static inline barleyrope_answer barleyrope_on_connected(barleyrope_state *state, uint8_t *store,
+                                                        size_t store_size, uint8_t *out, size_t out_size,
+                                                        uint16_t handle, uint64_t now_us)
+{
+    uint64_t told[8];
+    barleyrope_on_connected_words(state->core, state->tables, store, store_size, out, out_size, handle, now_us,
+                                  told);
+    return barleyrope_answer_of(told);
+}
+
+/*
+ * The link is gone. A running disconnect ends OK, another step that needs the link DISCONNECTED, and each
+ * next one NOT_CONNECTED, up to one that needs none. What was discovered and notified is kept. Nothing is
+ * sent, so no output is lent.
+ *
+ * Returns the refusal: 0, 1, 2 or 3.
+ */
+static inline int barleyrope_on_disconnected(barleyrope_state *state, uint8_t *store, size_t store_size,
+                                             uint64_t now_us)
+{
+    uint64_t told[8];
+    barleyrope_on_disconnected_words(state->core, state->tables, store, store_size, now_us, told);
+    return (int)told[0];
+}
+
+/*
+ * Bytes came in on the link: a whole L2CAP frame or a part of one, as the controller hands them out.
+ * Requests of the head are answered, whatever step runs.
+ *
+ *   start      a frame begins here (HCI packet boundary flag 0 or 2); else the last one goes on (1).
+ *              With no link, or going on where nothing began, the bytes are dropped, with no refusal.
+ *   fragment   only read; fragment_len may be 0
+ *
+ * Refusals: 1, 2, 3; 5 after 2^62 notifications: begin a new state; 7 the frame would have over 251
+ * bytes: it is dropped (the state's count of bytes held becomes 0), the link goes on with the next start.
+ */
+static inline barleyrope_answer barleyrope_on_fragment(barleyrope_state *state, uint8_t *store,
+                                                       size_t store_size, uint8_t *out, size_t out_size,
+                                                       uint64_t now_us, bool start, const uint8_t *fragment,
+                                                       size_t fragment_len)
+{
+    uint64_t told[8];
+    barleyrope_on_fragment_words(state->core, state->tables, store, store_size, out, out_size, now_us, start,
+                                 fragment, fragment_len, told);
+    return barleyrope_answer_of(told);
+}
+
+/*
+ * Types of advertising PDUs ON THE AIR (Core Specification Vol 6 Part B 2.3), which the calls take. HCI's
+ * advertising report numbers them otherwise: barleyrope_pdu_of_hci turns one into the other.
+ */
+enum {
+    BARLEYROPE_ADV_IND = 0,
+    BARLEYROPE_ADV_DIRECT_IND = 1,
+    BARLEYROPE_ADV_NONCONN_IND = 2,
+    BARLEYROPE_ADV_SCAN_IND = 6
+};
+
+/* Of HCI LE Advertising Report event types 0 to 3; others (4 is a scan response) stay as they are. */
+static inline uint8_t barleyrope_pdu_of_hci(uint8_t event_type)
+{
+    if (event_type == 2)
+        return BARLEYROPE_ADV_SCAN_IND;
+    if (event_type == 3)
+        return BARLEYROPE_ADV_NONCONN_IND;
+    return event_type;
+}
+
+/* What to do about an advertiser, at once. */
+enum {
+    BARLEYROPE_ACTION_NONE = 0,
+    BARLEYROPE_ACTION_SCAN_REQUEST = 1, /* ask it for its scan response; an active HCI scan does so itself */
+    BARLEYROPE_ACTION_CONNECT = 2       /* connect to it with interval, latency and timeout */
+};
+
+typedef struct barleyrope_advertised {
+    int refusal;
+    int action;        /* BARLEYROPE_ACTION_.. */
+    uint16_t interval; /* of a connection: in units of 1.25 ms, */
+    uint16_t latency;  /* in connection events, */
+    uint16_t timeout;  /* in units of 10 ms */
+} barleyrope_advertised;
+
+/*
+ * An advertisement was heard. While a scan or a connect runs, its advertiser's report is made or
+ * replaced (64 are kept; the oldest goes). A scan asks each scannable advertiser once; a connect names the
+ * advertiser to connect to, each time it is heard until barleyrope_on_connected. Otherwise nothing happens.
+ *
+ *   channel      where it was heard, 37 to 39; only kept. Any number, 0 where the controller doesn't say.
+ *   pdu          BARLEYROPE_ADV_..
+ *   data         the AD structures, data_len bytes, at most 31; only read, and copied
+ *   to_central   an ADV_DIRECT_IND is addressed to us; of no effect on other types
+ *
+ * Refusals: 1, 2, 3; 6 data over 31 bytes; 8 the running scan has asked 128 advertisers: nothing is kept of
+ * this one, others go on.
+ */
+static inline barleyrope_advertised barleyrope_on_advertising(barleyrope_state *state, uint8_t *store,
+                                                              size_t store_size, uint64_t now_us,
+                                                              uint8_t channel, uint8_t pdu,
+                                                              barleyrope_address address, const uint8_t *data,
+                                                              size_t data_len, bool to_central)
+{
+    uint64_t told[8];
+    barleyrope_advertised advertised;
+    barleyrope_on_advertising_words(state->core, state->tables, store, store_size, now_us, channel, pdu,
+                                    barleyrope_address_word(address), data, data_len, to_central, told);
+    advertised.refusal = (int)told[0];
+    advertised.action = (int)told[1];
+    advertised.interval = (uint16_t)told[2];
+    advertised.latency = (uint16_t)told[3];
+    advertised.timeout = (uint16_t)told[4];
+    return advertised;
+}
+
+/*
+ * A scan response was heard. It goes to its advertiser's report, and is dropped where there is none.
+ *
+ * Returns the refusal: 0, 1, 2, 3, or 6 if the data is over 31 bytes.
+ */
+static inline int barleyrope_on_scan_response(barleyrope_state *state, uint8_t *store, size_t store_size,
+                                              uint64_t now_us, barleyrope_address address, const uint8_t *data,
+                                              size_t data_len)
+{
+    uint64_t told[8];
+    barleyrope_on_scan_response_words(state->core, state->tables, store, store_size, now_us,
+                                      barleyrope_address_word(address), data, data_len, told);
+    return (int)told[0];
+}
+
+/* ---- reading: these change nothing ----------------------------------------------------------- */
+
+/*
+ * Refusals of all below: 1 and 2. Pointers that they hand out point into store, and what they point at
+ * stays until the next call that changes the state.
+ */
+
+/* When to call barleyrope_on_timer. */
+typedef struct barleyrope_timer {
+    int refusal;
+    bool is_set;    /* whether there is a deadline */
+    uint64_t at_us; /* it; may be in the past */
+} barleyrope_timer;
+
+/* The deadline of the running step, if it has one. Ask after every call: each may change it. */
+static inline barleyrope_timer barleyrope_get_timer(const barleyrope_state *state, const uint8_t *store,
+                                                    size_t store_size)
+{
+    uint64_t told[8];
+    barleyrope_timer timer;
+    barleyrope_timer_us_words(state->core, state->tables, store, store_size, told);
+    timer.refusal = (int)told[0];
+    timer.is_set = told[1] == 1;
+    timer.at_us = told[2];
+    return timer;
+}
+
+typedef struct barleyrope_link {
+    int refusal;
+    bool is_up;
+    uint16_t handle;
+} barleyrope_link;
+
+/* The link, if there is one. */
+static inline barleyrope_link barleyrope_get_link(const barleyrope_state *state, const uint8_t *store,
+                                                  size_t store_size)
+{
+    uint64_t told[8];
+    barleyrope_link link;
+    barleyrope_connected_handle_words(state->core, state->tables, store, store_size, told);
+    link.refusal = (int)told[0];
+    link.is_up = told[1] == 1;
+    link.handle = (uint16_t)told[2];
+    return link;
+}
+
+/* The place in the store, or NULL where there is none. */
+static inline const uint8_t *barleyrope_place(const uint8_t *store, bool is_there, uint64_t place)
+{
+    return is_there ? store + (size_t)place : NULL;
+}
+
+/* How a step ended. */
+typedef struct barleyrope_result {
+    int refusal;
+    bool is_kept;         /* false: the step has not ended, or 64 have ended since; the rest is 0 then */
+    uint64_t at_us;       /* the time of the call that ended it */
+    int status;           /* BARLEYROPE_OK, .. */
+    uint8_t att_code;     /* with BARLEYROPE_ATT_ERROR, the head's error code (Vol 3 Part F 3.4.1.1) */
+    const uint8_t *value; /* of a read that ended OK, value_len bytes */
+    size_t value_len;     /* 0 for every other */
+} barleyrope_result;
+
+/* The result of a step. Steps are numbered from 0 on over the life of a state, in the order taken in. */
+static inline barleyrope_result barleyrope_get_result(const barleyrope_state *state, const uint8_t *store,
+                                                      size_t store_size, uint32_t index)
+{
+    uint64_t told[8];
+    barleyrope_result result;
+    barleyrope_result_words(state->core, state->tables, store, store_size, index, told);
+    result.refusal = (int)told[0];
+    result.is_kept = told[1] == 1;
+    result.at_us = told[2];
+    result.status = (int)told[3];
+    result.att_code = (uint8_t)told[4];
+    result.value = barleyrope_place(store, result.is_kept, told[5]);
+    result.value_len = (size_t)told[6];
+    return result;
+}
+
+/*
+ * How many steps have ended: results 0 to this - 1 were given, the last 64 of them are kept. With it no
+ * result is missed:
+ *
+ *     for (; seen < barleyrope_steps_ended(&state); seen++)
+ *         your_result(seen, barleyrope_get_result(&state, store, sizeof store, seen));
+ *
+ * This and the next three read single words of the state; of an unfit state they say nothing.
+ */
+static inline uint32_t barleyrope_steps_ended(const barleyrope_state *state)
+{
+    return (uint32_t)(state->core[23] - state->core[5] % 2);
+}
+
+/* How many steps wait behind the running one; 64 less this is the room for a batch. */
+static inline size_t barleyrope_steps_waiting(const barleyrope_state *state)
+{
+    return (size_t)state->core[27];
+}
+
+/* The number that the next step taken in will have: ask before barleyrope_push_steps. */
+static inline uint32_t barleyrope_next_index(const barleyrope_state *state)
+{
+    return (uint32_t)(state->core[23] + state->core[27]);
+}
+
+/* How many steps were ever handed in while 64 waited: they were not taken in. */
+static inline uint64_t barleyrope_dropped_steps(const barleyrope_state *state)
+{
+    return state->core[24];
+}
+
+/* What was heard of an advertiser. */
+typedef struct barleyrope_report {
+    int refusal;
+    bool is_kept; /* false: there are not so many reports; the rest is 0 then */
+    uint64_t at_us;
+    uint8_t channel;
+    uint8_t pdu; /* BARLEYROPE_ADV_.. */
+    barleyrope_address address;
+    const uint8_t *data;
+    size_t data_len;
+    const uint8_t *response; /* the scan response, or NULL */
+    size_t response_len;
+} barleyrope_report;
+
+/*
+ * Report i, the oldest being 0. Reports are kept from scan to scan:
+ *
+ *     for (i = 0; (r = barleyrope_get_report(&state, store, sizeof store, i)).is_kept; i++) ..
+ */
+static inline barleyrope_report barleyrope_get_report(const barleyrope_state *state, const uint8_t *store,
+                                                      size_t store_size, size_t i)
+{
+    uint64_t told[12];
+    barleyrope_report report;
+    barleyrope_report_words(state->core, state->tables, store, store_size, i, told);
+    report.refusal = (int)told[0];
+    report.is_kept = told[1] == 1;
+    report.at_us = told[2];
+    report.channel = (uint8_t)told[3];
+    report.pdu = (uint8_t)told[4];
+    report.address = barleyrope_address_of(told[5], (told[5] >> 48) != 0);
+    report.data = barleyrope_place(store, report.is_kept, told[6]);
+    report.data_len = (size_t)told[7];
+    report.response = barleyrope_place(store, told[8] == 1, told[9]);
+    report.response_len = (size_t)told[10];
+    return report;
+}
+
+/* Bytes of the store. */
+typedef struct barleyrope_part {
+    int refusal;
+    const uint8_t *data; /* NULL where there are none */
+    size_t len;
+} barleyrope_part;
+
+static inline barleyrope_part barleyrope_part_of(const uint8_t *store, const uint64_t told[8])
+{
+    barleyrope_part part;
+    part.refusal = (int)told[0];
+    part.data = barleyrope_place(store, told[1] == 1, told[2]);
+    part.len = (size_t)told[3];
+    return part;
+}
+
+/* The advertising data of report i alone. */
+static inline barleyrope_part barleyrope_get_report_data(const barleyrope_state *state, const uint8_t *store,
+                                                         size_t store_size, size_t i)
+{
+    uint64_t told[8];
+    barleyrope_report_data_words(state->core, state->tables, store, store_size, i, told);
+    return barleyrope_part_of(store, told);
+}
+
+/* Its scan response alone. */
+static inline barleyrope_part barleyrope_get_report_response(const barleyrope_state *state,
+                                                             const uint8_t *store, size_t store_size, size_t i)
+{
+    uint64_t told[8];
+    barleyrope_report_response_words(state->core, state->tables, store, store_size, i, told);
+    return barleyrope_part_of(store, told);
+}
+
+/* The list of UUIDs in which report i names a service, of its data or else of its scan response. */
+static inline barleyrope_part barleyrope_find_in_report(const barleyrope_state *state, const uint8_t *store,
+                                                        size_t store_size, size_t i, barleyrope_uuid service)
+{
+    uint64_t told[8];
+    barleyrope_report_body_words(state->core, state->tables, store, store_size, i, service.low, service.high,
+                                 told);
+    return barleyrope_part_of(store, told);
+}
+
+/* ---- with no state: advertising data, connection parameters ---------------------------------- */
 
 /*
  * Whether advertising data (or scan response data) lists a service.

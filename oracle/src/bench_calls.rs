@@ -2,10 +2,16 @@
 //!
 //! The port's side of each row is a loop in Rattle, once of the calls on lent tables (crates/tool_bench) and once of those on a state
 //! by value (crates/tool_bench_value). It is timed whole and less its set-up (the same loop of 0 calls); the Rust's side is the same
-//! loop here, its set-up not timed. The three run in turn, round after round, the order changing; what is printed is the ratio of
-//! the best times, the median of the rounds' own ratios, and the best times. Times are the thread's own processor time, so that
-//! other programs count for little. Each answers one number of what the calls gave and left, and all must be equal.
+//! loop here, its set-up not timed, and so is the loop of calls through the C exports (crates/c_central). The four run in turn,
+//! round after round, the order changing; what is printed is the ratio of the best times, the median of the rounds' own ratios,
+//! and the best times. Times are the thread's own processor time, so that other programs count for little. Each answers one number
+//! of what the calls gave and left, and all must be equal.
 
+#[path = "bench/c.rs"]
+mod c;
+#[allow(dead_code)]
+#[path = "compare/exports.rs"]
+mod exports;
 #[path = "bench/link.rs"]
 mod link;
 #[path = "bench/radio.rs"]
@@ -14,20 +20,25 @@ mod radio;
 mod script;
 #[path = "bench/setup.rs"]
 mod setup;
+#[allow(dead_code)]
+#[path = "compare/state.rs"]
+mod state;
 
 use oracle::ble::central::{AdvReport, Central, Characteristic, Running, Step, Uuid};
 use setup::Lent;
 use std::ffi::c_int;
 use std::hint::black_box;
 
-/// The port's two forms of each call.
+/// The port's forms of each call: in Rattle's loops, and from C.
 #[derive(Clone, Copy)]
 pub enum Form {
     Lent,
     ByValue,
+    C,
 }
 
-const FORMS: [(&str, Form); 2] = [("lent", Form::Lent), ("by value", Form::ByValue)];
+const FORMS: [(&str, Form); 3] = [("lent", Form::Lent), ("by value", Form::ByValue), ("from C", Form::C)];
+const SIDES: usize = 1 + FORMS.len();
 
 /// One number of what the calls gave and left, and the nanoseconds that all took.
 pub type Took = (u64, f64);
@@ -140,7 +151,7 @@ struct Side {
 }
 
 impl Side {
-    fn new() -> Side {
+    const fn new() -> Side {
         Side { best: f64::MAX, rounds: Vec::new() }
     }
 
@@ -157,7 +168,7 @@ impl Side {
     }
 }
 
-/// Times the Rust and both forms of the port in turn and prints a row of each form. Which is first changes from round to round.
+/// Times the Rust and the forms of the port in turn and prints a row of each form. Which is first changes from round to round.
 pub fn compare(
     name: &str,
     calls: u32,
@@ -165,11 +176,11 @@ pub fn compare(
     mut rust: impl FnMut() -> Took,
     mut port: impl FnMut(Form) -> Took,
 ) {
-    let mut sides = [Side::new(), Side::new(), Side::new()];
+    let mut sides = [const { Side::new() }; SIDES];
     for round in 0..rounds {
-        let mut told = [0; 3];
-        for turn in 0..3 {
-            let side = (round + turn) % 3;
+        let mut told = [0; SIDES];
+        for turn in 0..SIDES {
+            let side = (round + turn) % SIDES;
             let took = if side == 0 { rust() } else { port(FORMS[side - 1].1) };
             told[side] = took.0;
             sides[side].took(took.1);

@@ -1,12 +1,17 @@
-//! Runs sequences of calls on the oracle and on the port and compares their answers line by line.
+//! Runs sequences of calls on the oracle and on a player of the port and compares their answers line by line.
 //!
-//!   compare PORT [seed N] [count N] [calls N] [dumps N] [groups script,radio,link] [save FOLDER] [refusals] [first]
+//!   compare PORT [seed N] [count N] [total N] [calls N] [dumps N] [groups script,radio,link] [save FOLDER] [refusals] [few] [first]
 //!
 //! PORT is a program that plays a trace (docs/TRACE.md), or `-` for none: sequences are then only made.
-//! `count` sequences of at least `calls` calls each are run, with `dumps` dumps in a hundred calls. With
-//! `refusals`, calls that 01 refuses are among them; the Rust has no answer for these, and the wanted one is
-//! that of gate.rs. `first` ends at the first difference, with no shrinking. The ending is 0 where there is no difference and each cell that can be reached was.
+//! `count` sequences of at least `calls` calls each are run, or so many that there are `total` calls, with `dumps` dumps in a
+//! hundred calls. With `refusals`, calls that 01 refuses are among them; the Rust has no answer for these, and the wanted one is
+//! that of gate.rs. `first` ends at the first difference, with no shrinking. The ending is 0 where there is no difference and
+//! each cell that can be reached was; with `few` that is not asked.
 
+#[path = "compare/asked.rs"]
+mod asked;
+#[path = "compare/options.rs"]
+mod options;
 #[path = "compare/port.rs"]
 mod port;
 #[path = "compare/report.rs"]
@@ -17,81 +22,24 @@ mod sequence;
 mod shrink;
 #[allow(dead_code)]
 mod trace;
+#[path = "compare/verdict.rs"]
+mod verdict;
 #[path = "compare/words.rs"]
 mod words;
 
-use port::Stream;
+use options::Options;
+use port::{Live, Stream};
 use sequence::counts::Counts;
-use sequence::{Groups, Plan, Recorded, record};
+use sequence::{Recorded, record};
 use std::process::ExitCode;
 use std::sync::mpsc::{Receiver, sync_channel};
 use std::time::Instant;
-
-pub struct Options {
-    port: String,
-    plan: Plan,
-    count: u64,
-    save: String,
-    first: bool,
-}
-
-fn options() -> Result<Options, String> {
-    let mut words = std::env::args().skip(1);
-    let port = words.next().ok_or("compare PORT [WORD [VALUE]] ..: see oracle/compare")?;
-    let mut o = Options {
-        port,
-        plan: Plan { seed: 1, groups: Groups { radio: true, link: true }, refusals: false, calls: 200, dumps: 9 },
-        count: 2_000,
-        save: "target/oracle".into(),
-        first: false,
-    };
-    while let Some(word) = words.next() {
-        match word.as_str() {
-            "first" => {
-                o.first = true;
-                continue;
-            }
-            "refusals" => {
-                o.plan.refusals = true;
-                continue;
-            }
-            _ => {}
-        }
-        let value = words.next().ok_or(format!("{word} needs a value"))?;
-        let number = || value.parse::<u64>().map_err(|_| format!("{word} {value} is no number"));
-        match word.as_str() {
-            "seed" => o.plan.seed = number()?,
-            "count" => o.count = number()?,
-            "calls" => o.plan.calls = number()? as usize,
-            "dumps" => o.plan.dumps = number()?,
-            "save" => o.save = value,
-            "groups" => {
-                let has = |g: &str| value.split(',').any(|x| x == g);
-                if let Some(other) = value.split(',').find(|g| !matches!(*g, "script" | "radio" | "link")) {
-                    return Err(format!("there is no group {other}"));
-                }
-                o.plan.groups = Groups { radio: has("radio"), link: has("link") };
-            }
-            _ => return Err(format!("unknown word {word}")),
-        }
-    }
-    Ok(o)
-}
-
-/// A sequence whose answers differ: the number of the first call that does.
-pub struct Difference {
-    pub number: u64,
-    pub at: usize,
-    /// Answers that were equal before it, in all sequences.
-    pub calls: u64,
-    pub made: Recorded,
-    pub got: Option<Vec<u8>>,
-}
+use verdict::{Difference, Shown};
 
 /// Reads the port's lines against those expected; hands back how many sequences differ, and the first.
 fn compare(port: &mut Stream, wanted: &Receiver<(u64, Recorded)>, first: bool) -> (u64, Option<Difference>) {
     let (mut differing, mut found, mut calls) = (0, None, 0);
-    for (number, made) in wanted {
+    for (number, mut made) in wanted {
         let (mut differs, mut ended) = (None, false);
         for (at, line) in made.lines.iter().enumerate() {
             let got = port.line();
@@ -109,7 +57,8 @@ fn compare(port: &mut Stream, wanted: &Receiver<(u64, Recorded)>, first: bool) -
         };
         differing += 1;
         if found.is_none() {
-            found = Some(Difference { number, at, calls, made, got });
+            let wanted = made.lines.swap_remove(at);
+            found = Some(Difference { number, at, calls, made: made.calls, wanted, got });
         }
         if ended || first {
             break;
@@ -118,14 +67,21 @@ fn compare(port: &mut Stream, wanted: &Receiver<(u64, Recorded)>, first: bool) -
     (differing, found)
 }
 
-fn run(o: &Options, counts: &mut Counts) -> Result<(u64, Option<Difference>), String> {
-    if o.port == "-" {
-        for number in 0..o.count {
+/// The numbers of the sequences that are made.
+fn more(o: &Options, number: u64, counts: &Counts) -> bool {
+    number < o.count && (o.total == 0 || counts.made() < o.total)
+}
+
+fn run(port: &str, o: &Options, counts: &mut Counts) -> Result<(u64, Option<Difference>), String> {
+    let mut number = 0;
+    if port == "-" {
+        while more(o, number, counts) {
             record(o.plan, number, counts);
+            number += 1;
         }
         return Ok((0, None));
     }
-    let (mut stream, bytes) = Stream::start(&o.port)?;
+    let (mut stream, bytes) = Stream::start(port)?;
     let (send, wanted) = sync_channel::<(u64, Recorded)>(8);
     let first = o.first;
     let reader = std::thread::spawn(move || {
@@ -133,56 +89,31 @@ fn run(o: &Options, counts: &mut Counts) -> Result<(u64, Option<Difference>), St
         stream.stop();
         found
     });
-    for number in 0..o.count {
+    while more(o, number, counts) {
         let made = record(o.plan, number, counts);
         if bytes.send(made.bytes()).is_err() || send.send((number, made)).is_err() {
             break;
         }
+        number += 1;
     }
     drop((bytes, send));
     reader.join().map_err(|_| "the comparison stopped".to_string())
 }
 
-fn main() -> ExitCode {
-    let o = match options() {
-        Ok(o) => o,
-        Err(e) => {
-            eprintln!("{e}");
-            return ExitCode::FAILURE;
-        }
-    };
+fn told() -> Result<ExitCode, String> {
+    let mut words = std::env::args().skip(1);
+    let port = words.next().ok_or("compare PORT [WORD [VALUE]] ..: see oracle/compare")?;
+    let o = Options::read(words)?;
     let start = Instant::now();
     let mut counts = Counts::default();
-    let (differing, found) = match run(&o, &mut counts) {
-        Ok(x) => x,
-        Err(e) => {
-            eprintln!("{e}");
-            return ExitCode::FAILURE;
-        }
-    };
-    if o.first {
-        return match found {
-            None => {
-                println!("no difference in {} sequences", o.count);
-                ExitCode::SUCCESS
-            }
-            Some(d) => {
-                let call = &d.made.calls[d.at];
-                let name = trace::NAMES[usize::from(call.tag())];
-                println!("found at call {}, in sequence {} at its call {}, {name}", d.calls, d.number, d.at);
-                ExitCode::FAILURE
-            }
-        };
-    }
-    report::print(&o, &counts, start.elapsed());
-    let empty = report::empty(&counts, o.plan);
-    for cell in &empty {
-        println!("never seen: {cell}");
-    }
-    println!("differences {differing}");
-    if let Some(d) = found {
-        shrink::show(&o, d);
-        return ExitCode::FAILURE;
-    }
-    if empty.is_empty() { ExitCode::SUCCESS } else { ExitCode::FAILURE }
+    let (differing, found) = run(&port, &o, &mut counts)?;
+    let shown = Shown { counts, took: start.elapsed(), differing, found };
+    Ok(verdict::give(&o, shown, Live::new(&port)))
+}
+
+fn main() -> ExitCode {
+    told().unwrap_or_else(|e| {
+        eprintln!("{e}");
+        ExitCode::FAILURE
+    })
 }

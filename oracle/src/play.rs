@@ -7,6 +7,7 @@ mod trace;
 use oracle::ble::central::Central;
 use std::io::{BufReader, Write};
 use std::process::ExitCode;
+use trace::answer;
 
 fn main() -> ExitCode {
     let mut from = BufReader::with_capacity(1 << 16, std::io::stdin().lock());
@@ -15,7 +16,10 @@ fn main() -> ExitCode {
     loop {
         let (mut line, last) = match trace::next(&mut from) {
             Ok(None) => return ExitCode::SUCCESS,
-            Ok(Some(call)) => (trace::answer::judge(&mut central, &call).0, false),
+            Ok(Some(call)) => {
+                let answer = answer::judge(&mut central, &call).0;
+                (answer::line(&call, &answer, &central), false)
+            }
             Err(bad) => (bad.line().as_bytes().to_vec(), true),
         };
         line.push(b'\n');

@@ -1,4 +1,4 @@
-//! Writes the list that `leaf_replay` replays, and what it is to print: `record LIST PRINTED`. The answers are the Rust's
+//! Writes the list that `tool_leaf_replay` replays, and what it is to print: `record LIST PRINTED`. The answers are the Rust's
 //! alone; oracle/record says more.
 
 #[allow(dead_code)]

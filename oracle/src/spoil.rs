@@ -3,6 +3,8 @@
 //!
 //!   spoil PORT [SEED [COUNT]]
 
+#[path = "compare/asked.rs"]
+mod asked;
 #[allow(dead_code)]
 #[path = "compare/port.rs"]
 mod port;
@@ -11,6 +13,7 @@ mod sequence;
 #[allow(dead_code)]
 mod trace;
 
+use asked::Asked;
 use sequence::counts::Counts;
 use sequence::rng::Rng;
 use sequence::{Groups, Plan, record};

@@ -1,6 +1,14 @@
 -- The numbers of ATT that 01 names.
 use Prim.Native.Nat.{ℕ}
 
+-- the ATT_MTU of a link on which none was exchanged (Core Vol 3 Part F 3.2.8), and the least that LE allows (Part A 5.1, Part G 5.2.1)
+abbrev pub defaultMtu : ℕ
+defaultMtu = 23
+
+-- no handle is after this one (Core Vol 3 Part F 3.2.2)
+abbrev pub lastHandle : ℕ
+lastHandle = 0xFFFF
+
 -- opcodes, Core Vol 3 Part F 3.4.8
 abbrev pub opErrorRsp : ℕ
 opErrorRsp = 0x01

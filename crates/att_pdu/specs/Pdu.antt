@@ -1,7 +1,7 @@
 -- ATT PDUs, Core Vol 3 Part F 3.4: an opcode and its parameters, each number in two bytes.
 use Prim.Native.Nat.{ℕ}
 use mathlib.Core.List.{List, [], _∷_, _++_}
-use Rattle.base.specs.Bytes.{leBytes}
+use Rattle.bytes.specs.Bytes.{leBytes}
 use Rattle.att_pdu.specs.Numbers.{opErrorRsp, opExchangeMtuReq, opExchangeMtuRsp, opFindInformationReq, opReadByTypeReq, opReadReq, opReadByGroupTypeReq, opWriteReq, opWriteCmd, opHandleValueCfm}
 
 -- 3.4.1.1: the opcode of the request in error, the handle in error, the error code

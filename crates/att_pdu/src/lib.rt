@@ -1,8 +1,8 @@
 // ATT PDUs of a fixed length, each built whole; those with a range of handles stand in att_requests. A PDU with a value is
-// written where it goes: wire::att_frame.
+// written where it goes: l2cap::att_frame.
 ghost use mathlib.Core.Path.{_≡_};
 ghost use mathlib.Core.List.{_∷_};
-ghost use Rattle.base.specs.Bytes.{leBytes};
+ghost use Rattle.bytes.specs.Bytes.{leBytes};
 ghost use Rattle.att_pdu.specs.Pdu.{
   attError,
   exchangeMtuReq,
@@ -14,11 +14,17 @@ ghost use Rattle.att_pdu.specs.Pdu.{
 pub mod err;
 pub mod op;
 
+// Core Vol 3 Part F 3.2.8: the ATT_MTU of a link on which none was exchanged, and the least that one may be.
+pub const DEFAULT_MTU: u16 = 23;
+
+// Core Vol 3 Part F 3.2.2: no handle is after this one.
+pub const LAST_HANDLE: u16 = 0xFFFF;
+
 // An opcode and one number.
 fn with_number(opcode: u8, a: u16) -> [u8; 3]
     ensures { λ r. ⌜ r ≡ opcode ∷ leBytes 2 a ⌝ }
 {
-    [opcode, halves::lo(a), halves::hi(a)]
+    [opcode, bytes_halves::lo(a), bytes_halves::hi(a)]
 }
 
 pub fn att_error(request: u8, handle: u16, code: u8) -> [u8; 5]
@@ -27,8 +33,8 @@ pub fn att_error(request: u8, handle: u16, code: u8) -> [u8; 5]
     [
         op::ERROR_RSP,
         request,
-        halves::lo(handle),
-        halves::hi(handle),
+        bytes_halves::lo(handle),
+        bytes_halves::hi(handle),
         code,
     ]
 }

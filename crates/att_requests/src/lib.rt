@@ -1,7 +1,7 @@
 // ATT requests of a range of handles, each built whole.
 ghost use mathlib.Core.Path.{_≡_};
 ghost use mathlib.Core.List.{_∷_, _++_};
-ghost use Rattle.base.specs.Bytes.{leBytes};
+ghost use Rattle.bytes.specs.Bytes.{leBytes};
 ghost use Rattle.att_pdu.specs.Pdu.{findInformationReq, readByTypeReq, readByGroupTypeReq};
 use att_pdu::op;
 
@@ -11,10 +11,10 @@ fn with_range(opcode: u8, start: u16, end: u16) -> [u8; 5]
 {
     [
         opcode,
-        halves::lo(start),
-        halves::hi(start),
-        halves::lo(end),
-        halves::hi(end),
+        bytes_halves::lo(start),
+        bytes_halves::hi(start),
+        bytes_halves::lo(end),
+        bytes_halves::hi(end),
     ]
 }
 
@@ -24,12 +24,12 @@ fn with_type(opcode: u8, start: u16, end: u16, uuid16: u16) -> [u8; 7]
 {
     [
         opcode,
-        halves::lo(start),
-        halves::hi(start),
-        halves::lo(end),
-        halves::hi(end),
-        halves::lo(uuid16),
-        halves::hi(uuid16),
+        bytes_halves::lo(start),
+        bytes_halves::hi(start),
+        bytes_halves::lo(end),
+        bytes_halves::hi(end),
+        bytes_halves::lo(uuid16),
+        bytes_halves::hi(uuid16),
     ]
 }
 

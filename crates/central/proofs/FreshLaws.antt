@@ -1,14 +1,14 @@
 -- Words that are all zero say the tables of a fresh state.
 use Prim.Native.Nat.{ℕ, zero, suc, _+_}
-use mathlib.Core.Path.{_≡_, refl, sym, ap, _∙_}
+use mathlib.Core.Path.{_≡_, refl, ap, _∙_}
 use mathlib.Core.List.{List, [], _∷_}
 use lib.ListN.{getD, replicate}
-use Rattle.services.specs.Service.{zero-service}
-use Rattle.characteristics.specs.Characteristic.{zero-characteristic}
+use Rattle.gatt_services.specs.Service.{zero-service}
+use Rattle.gatt_characteristics.specs.Characteristic.{zero-characteristic}
 use Rattle.state.specs.Fresh.{noQueued, noResult, noNotification, freshCentral}
 use Rattle.state.specs.declared.Heard.{Heard}
 use Rattle.words.specs.Table.{tableFrom, table}
-use Rattle.words.specs.Words.{targetOf, stepOf, lenOf, flatOf, queuedOf, statusOf, resultOf, serviceOf, cccdOf, characteristicOf, notificationOf, channelOf, pduOf, dataLenOf, responseOf}
+use Rattle.words.specs.Words.{stepOf, lenOf, flatOf, queuedOf, statusOf, resultOf, serviceOf, cccdOf, characteristicOf, notificationOf, channelOf, pduOf, dataLenOf, responseOf, timeOf}
 use Rattle.words.specs.Tables.{word, Tables, tables, stepsIn, resultsIn, servicesIn, characteristicsIn, notificationsIn, whoIn, heardIn, keysIn}
 use Rattle.words.proofs.TableLaws.{table-same}
 use mathlib.Core.Bool.{false}
@@ -85,13 +85,13 @@ unfolding whoIn
 fresh-who = all-same 64 (λ i. word no-words 736 i) 0 (λ k. z (736 + k))
 
 abbrev no-heard : Heard
-no-heard = record { at = replicate 64 0; channel = replicate 64 0; pdu = replicate 64 0; len = replicate 64 0; response = replicate 64 0 }
+no-heard = record { at = replicate 64 (record { 0 = 0 }); channel = replicate 64 0; pdu = replicate 64 0; len = replicate 64 0; response = replicate 64 0 }
 
 fresh-heard : heardIn no-words ≡ no-heard
 unfolding heardIn
 fresh-heard =
     rw (
-      all-same 64 (λ i. word no-words 800 i) 0 (λ k. z (800 + k)),
+      all-same 64 (λ i. timeOf (word no-words 800 i)) (timeOf 0) (λ k. ap timeOf (z (800 + k))),
       all-same 64 (λ i. channelOf (word no-words 864 i)) 0 (λ k. ap channelOf (z (864 + k))),
       all-same 64 (λ i. pduOf (word no-words 864 i)) 0 (λ k. ap pduOf (z (864 + k))),
       all-same 64 (λ i. dataLenOf (word no-words 864 i)) 0 (λ k. ap dataLenOf (z (864 + k))),

@@ -2,9 +2,9 @@
 use Prim.Native.Nat.{ℕ}
 use mathlib.Core.List.{List}
 use Rattle.state.specs.Central.{Central}
-use Rattle.calls.specs.Outcome.{Outcome, Quiet}
-use Rattle.matching.specs.declared.AdvAction.the-variants as action
-use Rattle.hearing.specs.Hearing as hearing
+use Rattle.script_rules.specs.Outcome.{Outcome, Quiet}
+use Rattle.radio_match.specs.declared.AdvAction.the-variants as action
+use Rattle.radio_rules.specs.Hearing as hearing
 use Rattle.state_core.specs.Reading.{central}
 use Rattle.central.specs.declared.State.{State}
 use Rattle.central.specs.declared.Answer.{Answer}

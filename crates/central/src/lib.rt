@@ -1,21 +1,21 @@
 // The calls of a central on a state that goes in by value and comes back: each lends its tables to the call of the same name.
 ghost use mathlib.Core.Path.{_≡_};
 ghost use lib.ListN.{length};
-ghost use Rattle.batch.specs.Batch.{pushSteps};
-ghost use Rattle.events.specs.Events.{onTimer, onConnected, onDisconnected};
-ghost use Rattle.rules.specs.Link.{onFragment};
-ghost use Rattle.readers.specs.Readers.{timer, handle, result};
-ghost use Rattle.hearing.specs.Hearing.{adv, advertised, scanResponded};
+ghost use Rattle.script_rules.specs.Batch.{pushSteps};
+ghost use Rattle.script_rules.specs.Events.{onTimer, onConnected, onDisconnected};
+ghost use Rattle.link_rules.specs.Link.{onFragment};
+ghost use Rattle.state_readers.specs.Readers.{timer, handle, result};
+ghost use Rattle.radio_rules.specs.Hearing.{adv, advertised, scanResponded};
 ghost use Rattle.central.specs.State.{reading, outcome, quiet, acted, heard};
-use matching::AdvAction;
-use readers::Given;
-use readers::Handle;
-use readers::Timer;
+use radio_match::AdvAction;
+use script_rules::Batch;
 use state::Address;
 use state::Sent;
 use state_core::Core;
+use state_readers::Given;
+use state_readers::Handle;
+use state_readers::Timer;
 use time::Micros;
-use waiting::Batch;
 
 pub mod fresh;
 

@@ -2,8 +2,8 @@
 use Prim.Native.Nat.{ℕ}
 use mathlib.Core.Path.{_≡_}
 use mathlib.Core.List.{List}
-use Rattle.refusals.specs.Refusals.{accepted}
-use Rattle.calls.specs.Outcome.{Outcome, Quiet}
+use Rattle.state_refusals.specs.Refusals.{accepted}
+use Rattle.script_rules.specs.Outcome.{Outcome, Quiet}
 use Rattle.state_core.specs.declared.Core.{Core}
 use Rattle.state_core.specs.Reading.{central}
 use Rattle.central_answers.specs.declared.Answer.{Answer}

@@ -2,14 +2,14 @@
 ghost use mathlib.Core.Path.{_≡_};
 ghost use mathlib.Core.List.{List};
 ghost use Prim.Native.Nat.{ℕ};
-ghost use Rattle.calls.specs.Outcome.{begins, done, refused, quietly, quietlyRefused};
+ghost use Rattle.script_rules.specs.Outcome.{begins, done, refused, quietly, quietlyRefused};
 ghost use Rattle.state_core.specs.Reading.{central, held, world};
 ghost use Rattle.central_answers.specs.Answers.{outcome, quiet};
-use refusals::refusal;
 use state::LinkRequest;
 use state::Sent;
 use state_core::Core;
 use state_core::Turn;
+use state_refusals::refusal;
 
 // The answer of a call that may send. A refusal of 0 is none.
 pub struct Answer {

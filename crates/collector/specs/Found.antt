@@ -1,6 +1,6 @@
 use Prim.Native.Nat.{ℕ}
-use Rattle.advertising.specs.declared.Place.{Place}
-use Rattle.advertising.specs.declared.Place.the-variants.{Body, Nothing}
+use Rattle.adv_data.specs.declared.Place.{Place}
+use Rattle.adv_data.specs.declared.Place.the-variants.{Body, Nothing}
 
 -- where a body starts; what was there before where there is none
 abbrev pub startOf : Place → ℕ → ℕ

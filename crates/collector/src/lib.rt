@@ -2,10 +2,10 @@
 // include/barleyrope.h declares them for C, where a `&[u8]` is a pointer and a length.
 ghost use mathlib.Core.Path.{_≡_};
 ghost use Prim.Native.Nat.{_+_, _*_, _^_};
-ghost use Rattle.advertising.specs.Ad.{listedPlace, listsService};
+ghost use Rattle.adv_data.specs.Ad.{listedPlace, listsService};
 ghost use Rattle.collector.specs.Found.{startOf, countOf};
-ghost use Rattle.params.specs.Params.{goodParams};
-use advertising::Place;
+ghost use Rattle.l2cap_params.specs.Params.{goodParams};
+use adv_data::Place;
 use uuid::Uuid;
 
 // Whether some structure of the data lists the service.
@@ -13,7 +13,7 @@ use uuid::Uuid;
 pub extern "C" fn barleyrope_lists_service(data: &[u8], low: u64, high: u64) -> bool
     ensures { λ r. ⌜ r ≡ listsService (low + 2 ^ 64 * high) (now («data» .entry)) ⌝ }
 {
-    listing::ad_lists_service(data, Uuid { low, high })
+    adv_listing::ad_lists_service(data, Uuid { low, high })
 }
 
 // Where the body of the first structure that lists the service stands; both places keep what they held where none does.
@@ -29,7 +29,7 @@ pub extern "C" fn barleyrope_find_service(
     ensures { λ _. ⌜ now (start .exit) ≡ startOf (listedPlace (low + 2 ^ 64 * high) (now («data» .entry))) (now (start .entry)) ⌝ }
     ensures { λ _. ⌜ now (count .exit) ≡ countOf (listedPlace (low + 2 ^ 64 * high) (now («data» .entry))) (now (count .entry)) ⌝ }
 {
-    match advertising::search(data, Uuid { low, high }) {
+    match adv_data::search(data, Uuid { low, high }) {
         Place::Body(from, len) => {
             *start = from;
             *count = len;
@@ -44,5 +44,5 @@ pub extern "C" fn barleyrope_find_service(
 pub extern "C" fn barleyrope_params_good(min: u16, max: u16, latency: u16, timeout: u16) -> bool
     ensures { λ r. ⌜ r ≡ goodParams min max latency timeout ⌝ }
 {
-    params::params_good(min, max, latency, timeout)
+    l2cap_params::params_good(min, max, latency, timeout)
 }

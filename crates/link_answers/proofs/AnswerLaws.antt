@@ -7,24 +7,23 @@ use native.Mathlib.Omega.{arith}
 use lib.ListN.{take, getD}
 use lib.Dec.{eqb}
 use borrow.Author.Tests.{eq-eqb, ne-eqb}
-use Rattle.base.specs.Bytes.{leAt}
-use Rattle.base.specs.Choice.{pick}
-use Rattle.queues.specs.Blocks.{bytes}
+use Rattle.bytes.specs.Bytes.{leAt}
+use Rattle.bytes.specs.Choice.{pick}
+use Rattle.lists.specs.Blocks.{bytes}
 use Rattle.time.specs.declared.Micros.{Micros}
 use Rattle.att_pdu.specs.Numbers.{opReadRsp}
-use Rattle.services.specs.declared.Service.{Service}
-use Rattle.characteristics.specs.declared.Characteristics.{Characteristics}
-use Rattle.descriptors.specs.declared.Range.{Range}
-use Rattle.descriptors.specs.Range.{descriptorRange}
+use Rattle.gatt_services.specs.declared.Service.{Service}
+use Rattle.gatt_characteristics.specs.declared.Characteristics.{Characteristics}
+use Rattle.gatt_descriptors.specs.declared.Range.{Range}
+use Rattle.gatt_descriptors.specs.Range.{descriptorRange}
 use Rattle.state.specs.Central as state
 use Rattle.state.specs.declared.Bearer.{Bearer}
 use Rattle.state.specs.declared.StepStatus.the-variants.{Ok}
-use Rattle.turns.specs.World.{World, Told, told, onHeld}
-use Rattle.starts.specs.Start.{ends}
-use Rattle.frames.specs.Payload.{payloadAt, withMtu}
-use Rattle.answers.specs.Answers.{smallerMtu}
-use Rattle.answers.proofs.AnswerLaws.{yes, no}
-use Rattle.moves.specs.Moves.{become, over, rangeEnd, afterRange, unasked}
+use Rattle.script_rules.specs.World.{World, told}
+use Rattle.link_rules.specs.Payload.{payloadAt, withMtu}
+use Rattle.link_rules.specs.Answers.{smallerMtu}
+use Rattle.link_rules.proofs.AnswerLaws.{yes, no}
+use Rattle.link_rules.specs.Moves.{become, over, rangeEnd, unasked}
 use Rattle.link_record.specs.Record.{agreed, answered, withLink}
 use Rattle.state_core.specs.declared.Core.{Core}
 use Rattle.state_core.specs.declared.Turn.{Turn}

@@ -4,27 +4,27 @@ ghost use mathlib.Core.List.{List};
 ghost use Prim.Native.Nat.{ℕ, _≤_};
 ghost use lib.Dec.{eqb};
 ghost use lib.ListN.{length, getD};
-ghost use Rattle.base.specs.Bytes.{leAt};
-ghost use Rattle.base.specs.Choice.{pick};
-ghost use Rattle.places.specs.Sizes.{storeSize, mostResults, mostCharacteristics};
-ghost use Rattle.queues.specs.Blocks.{bytes};
+ghost use Rattle.bytes.specs.Bytes.{leAt};
+ghost use Rattle.bytes.specs.Choice.{pick};
+ghost use Rattle.state_places.specs.Sizes.{storeSize, mostResults, mostCharacteristics};
+ghost use Rattle.lists.specs.Blocks.{bytes};
 ghost use Rattle.att_pdu.specs.Numbers.{opReadRsp, opWriteRsp};
 ghost use Rattle.state.specs.declared.StepStatus.the-variants.{Ok};
-ghost use Rattle.turns.specs.World.{Told};
-ghost use Rattle.frames.specs.Payload.{payloadAt, payloadSize, withMtu};
-ghost use Rattle.answers.specs.Answers.{smallerMtu};
-ghost use Rattle.moves.specs.Moves.{over, become, valueRead, afterRange, unasked};
+ghost use Rattle.script_rules.specs.World.{Told};
+ghost use Rattle.link_rules.specs.Payload.{payloadAt, payloadSize, withMtu};
+ghost use Rattle.link_rules.specs.Answers.{smallerMtu};
+ghost use Rattle.link_rules.specs.Moves.{over, become, valueRead, afterRange, unasked};
 ghost use Rattle.state_core.specs.Reading.{central, held, world};
 use att_pdu::op;
-use descriptors::Range;
-use services::Service;
+use gatt_descriptors::Range;
+use gatt_services::Service;
 use state::StepStatus;
 use state_core::Core;
 use state_core::Turn;
 use time::Micros;
 
 // A read's value stands behind the opcode.
-const VALUE_AT: usize = frames::PAYLOAD_AT + 1;
+const VALUE_AT: usize = link_payload::PAYLOAD_AT + 1;
 
 // No response is awaited any more.
 pub fn unask(t: Turn) -> Turn
@@ -87,8 +87,8 @@ pub fn mtu_told(
     let mut core = t.core;
     let sent = t.sent;
     let bearer = core.bearer;
-    let server = frames::number(store, n, 1);
-    core.bearer = link_record::agreed(bearer, answers::smaller_mtu(server, mtu));
+    let server = link_payload::number(store, n, 1);
+    core.bearer = link_record::agreed(bearer, link_fields::smaller_mtu(server, mtu));
     let u = Turn { core, sent };
     script_turns::end_turn(u, tables, store, at, StepStatus::Ok)
 }
@@ -102,7 +102,7 @@ pub fn written(t: Turn, tables: &mut [u64; 1056], store: &mut [u8], at: Micros, 
         (over (world t (now (tables .entry)) (now (store .entry)) o) at Ok)
         (world t (now (tables .entry)) (now (store .entry)) o)) ⌝ }
 {
-    let opcode = frames::byte(store, n, 0);
+    let opcode = link_payload::byte(store, n, 0);
     if opcode == op::WRITE_RSP {
         return script_turns::end_turn(t, tables, store, at, StepStatus::Ok);
     }
@@ -118,7 +118,7 @@ pub fn value_read(t: Turn, tables: &mut [u64; 1056], store: &mut [u8], at: Micro
         (valueRead (world t (now (tables .entry)) (now (store .entry)) o) at n)
         (world t (now (tables .entry)) (now (store .entry)) o)) ⌝ }
 {
-    let opcode = frames::byte(store, n, 0);
+    let opcode = link_payload::byte(store, n, 0);
     if opcode == op::READ_RSP {
         let len = (n - 1) as u8;
         return script_turns::finish_turn(t, tables, store, at, StepStatus::Ok, VALUE_AT, len);

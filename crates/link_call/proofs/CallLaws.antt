@@ -5,21 +5,21 @@ use mathlib.Core.Bool.{Bool, true, false}
 use mathlib.Core.List.{List}
 use lib.ListN.{length}
 use lib.Dec.{eqb}
-use Rattle.base.specs.Choice.{pick}
-use Rattle.places.specs.Sizes.{frameSize}
+use Rattle.bytes.specs.Choice.{pick}
+use Rattle.state_places.specs.Sizes.{frameSize}
 use Rattle.time.specs.declared.Micros.{Micros}
 use Rattle.state.specs.Central.{Central}
 use Rattle.state.specs.declared.Sent.{Sent}
-use Rattle.turns.specs.World.{Told, World, onTold}
-use Rattle.keeps.proofs.Turns.{of-fit}
-use Rattle.calls.specs.Outcome.{Outcome, begins, done, refused}
-use Rattle.calls.proofs.BeginLaws.{begins-sound}
-use Rattle.calls.proofs.GateLaws.{goes-through, is-stopped}
-use Rattle.refusals.specs.Refusals.{longFrame}
-use Rattle.fragments.specs.Fragment.{withHeld, dropped, heldBefore, gateFragment, refusing}
-use Rattle.fragments.proofs.FragmentLaws.{PassedFragment, passed-fragment}
-use Rattle.replies.specs.Replies.{refuse}
-use Rattle.rules.specs.Link.{Hears, hear, onFragment}
+use Rattle.script_rules.specs.World.{Told, World, onTold}
+use Rattle.script_rules.proofs.KeepTurns.{of-fit}
+use Rattle.script_rules.specs.Outcome.{Outcome, begins, done, refused}
+use Rattle.script_rules.proofs.CallBeginLaws.{begins-sound}
+use Rattle.script_rules.proofs.GateLaws.{goes-through, is-stopped}
+use Rattle.state_refusals.specs.Refusals.{longFrame}
+use Rattle.link_rules.specs.Fragment.{withHeld, dropped, heldBefore, gateFragment, refusing}
+use Rattle.link_rules.proofs.FragmentLaws.{PassedFragment, passed-fragment}
+use Rattle.link_rules.specs.Replies.{refuse}
+use Rattle.link_rules.specs.Link.{Hears, hear, onFragment}
 use Rattle.state_core.specs.declared.Core.{Core}
 use Rattle.state_core.specs.declared.Turn.{Turn}
 use Rattle.state_core.specs.Reading.{central, world}

@@ -1,30 +1,29 @@
 -- What gathering a fragment, reading a frame and the channels ask of what they call, and what each of their returns asks.
 use Prim.Native.Nat.{ℕ, _+_, _≤_, _<_}
-use mathlib.Core.Path.{_≡_, refl, sym, ap, subst, _∙_}
+use mathlib.Core.Path.{_≡_, sym, ap, subst, _∙_}
 use mathlib.Core.Bool.{Bool, true, false}
 use mathlib.Core.List.{List}
 use native.Mathlib.Omega.{arith}
 use lib.ListN.{length}
 use borrow.Author.Tests.{ne-eqb}
-use Rattle.base.specs.Choice.{pick}
-use Rattle.queues.specs.Blocks.{bytes}
-use Rattle.places.specs.Sizes.{heldAt, frameSize}
+use Rattle.bytes.specs.Choice.{pick}
+use Rattle.lists.specs.Blocks.{bytes}
+use Rattle.state_places.specs.Sizes.{frameSize}
 use Rattle.time.specs.declared.Micros.{Micros}
 use Rattle.time.specs.Clock.{latest}
-use Rattle.wire.specs.Numbers.{cidAtt, cidSignaling, cidSmp}
-use Rattle.state.specs.Central.{Central}
-use Rattle.fit.specs.Fit.{mostNotified}
-use Rattle.turns.specs.World.{Held, Told, World, onHeld, onTold, onState}
-use Rattle.keeps.specs.Sound.{Sound}
-use Rattle.script.specs.Script.{advance}
-use Rattle.frames.specs.Payload.{Reads, payloadAt}
-use Rattle.replies.specs.Replies.{onSignaling, onSmp}
-use Rattle.rules.specs.Att.{onAtt}
-use Rattle.rules.specs.Channel.{onChannel}
-use Rattle.holds.proofs.Channel.{sound-channel}
-use Rattle.fragments.specs.Fragment.{withHeld, dropped, heldBefore, gathered, frameLength, frameChannel, whole}
-use Rattle.rules.specs.Link.{Hears, frameRead, gather, hear}
-use Rattle.rules.proofs.KeepLaws.{still-linked, comes-linked, hears-gathered, sound-emptied, short-payload, reads-emptied}
+use Rattle.l2cap.specs.Numbers.{cidAtt, cidSignaling, cidSmp}
+use Rattle.state_rules.specs.Fit.{mostNotified}
+use Rattle.script_rules.specs.World.{Told, World, onHeld, onTold, onState}
+use Rattle.script_rules.specs.Sound.{Sound}
+use Rattle.script_rules.specs.Script.{advance}
+use Rattle.link_rules.specs.Payload.{Reads, payloadAt}
+use Rattle.link_rules.specs.Replies.{onSignaling, onSmp}
+use Rattle.link_rules.specs.Att.{onAtt}
+use Rattle.link_rules.specs.Channel.{onChannel}
+use Rattle.link_rules.proofs.KeepChannel.{sound-channel}
+use Rattle.link_rules.specs.Fragment.{withHeld, dropped, heldBefore, gathered, frameLength, frameChannel, whole}
+use Rattle.link_rules.specs.Link.{Hears, frameRead, gather, hear}
+use Rattle.link_rules.proofs.KeepFrames.{still-linked, comes-linked, hears-gathered, sound-emptied, short-payload, reads-emptied}
 
 -- ---- the channels
 

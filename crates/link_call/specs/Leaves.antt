@@ -2,8 +2,8 @@
 use Prim.Native.Nat.{ℕ}
 use mathlib.Core.List.{List}
 use lib.Dec.{eqb}
-use Rattle.base.specs.Choice.{pick}
-use Rattle.refusals.specs.Refusals.{longFrame}
+use Rattle.bytes.specs.Choice.{pick}
+use Rattle.state_refusals.specs.Refusals.{longFrame}
 use Rattle.state_core.specs.declared.Core.{Core}
 use Rattle.state_core.specs.Reading.{withBearer}
 use Rattle.central_answers.specs.Answers.{Leaves}

@@ -4,36 +4,33 @@ ghost use mathlib.Core.Bool.{true, false};
 ghost use mathlib.Core.List.{List};
 ghost use Prim.Native.Nat.{ℕ, _+_, _≤_, _<_};
 ghost use lib.ListN.{length};
-ghost use Rattle.places.specs.Sizes.{frameSize};
-ghost use Rattle.fit.specs.Fit.{mostNotified};
-ghost use Rattle.turns.specs.World.{onTold};
-ghost use Rattle.turns.specs.Send.{Room};
-ghost use Rattle.frames.specs.Payload.{Reads};
-ghost use Rattle.fragments.specs.Fragment.{dropped, heldBefore, whole};
-ghost use Rattle.replies.specs.Replies.{refuse};
-ghost use Rattle.rules.specs.Att.{onAtt};
-ghost use Rattle.rules.specs.Channel.{onChannel};
-ghost use Rattle.rules.specs.Link.{Hears, frameRead, gather, hear, onFragment};
+ghost use Rattle.state_places.specs.Sizes.{frameSize};
+ghost use Rattle.state_rules.specs.Fit.{mostNotified};
+ghost use Rattle.script_rules.specs.World.{onTold};
+ghost use Rattle.script_rules.specs.Send.{Room};
+ghost use Rattle.link_rules.specs.Payload.{Reads};
+ghost use Rattle.link_rules.specs.Fragment.{dropped, heldBefore, whole};
+ghost use Rattle.link_rules.specs.Replies.{refuse};
+ghost use Rattle.link_rules.specs.Att.{onAtt};
+ghost use Rattle.link_rules.specs.Channel.{onChannel};
+ghost use Rattle.link_rules.specs.Link.{Hears, frameRead, gather, hear, onFragment};
 ghost use Rattle.state_core.specs.Reading.{central, held, world};
 ghost use Rattle.central_answers.specs.Answers.{outcome};
 ghost use Rattle.link_call.specs.Leaves.{FragmentLeaves};
 use att_pdu::err;
 use att_pdu::op;
 use central_answers::Answer;
-use refusals::refusal;
+use l2cap::cid;
 use state_core::Core;
 use state_core::Turn;
+use state_refusals::refusal;
 use time::Micros;
-use wire::cid;
 
 // The last opcode before the notification's.
 const LAST_REQUEST: u8 = op::HANDLE_VALUE_NTF - 1;
 
 // The one request beyond.
 const READ_MULTIPLE_VARIABLE_REQ: u8 = 0x20;
-
-// A notification has an opcode and a handle at least.
-const HEAD: usize = 3;
 
 // A request of the peer is not served.
 fn refuse(t: Turn, out: &mut [u8], opcode: u8, handle: u16, code: u8) -> Turn
@@ -42,7 +39,7 @@ fn refuse(t: Turn, out: &mut [u8], opcode: u8, handle: u16, code: u8) -> Turn
 {
     let core = t.core;
     let sent = t.sent;
-    let told = replies::refuse(sent, out, opcode, handle, code);
+    let told = link_signals::refuse(sent, out, opcode, handle, code);
     Turn { core, sent: told }
 }
 
@@ -61,11 +58,11 @@ fn on_att(
     if n == 0 {
         return t;
     }
-    let opcode = frames::byte(store, n, 0);
-    let handle = frames::number(store, n, 1);
+    let opcode = link_payload::byte(store, n, 0);
+    let handle = link_payload::number(store, n, 1);
     match opcode {
         op::HANDLE_VALUE_NTF | op::HANDLE_VALUE_IND => {
-            if HEAD <= n {
+            if l2cap::ATT_HEAD <= n {
                 let indication = opcode == op::HANDLE_VALUE_IND;
                 link_replies::notice(t, tables, store, out, at, n, indication)
             } else {
@@ -112,11 +109,11 @@ fn on_channel(
     match channel {
         cid::ATT => on_att(t, tables, store, out, at, n),
         cid::SIGNALING => {
-            let told = replies::on_signaling(sent, out, store, n);
+            let told = link_signals::on_signaling(sent, out, store, n);
             Turn { core, sent: told }
         }
         cid::SMP => {
-            let told = replies::on_smp(sent, out, store, n);
+            let told = link_signals::on_smp(sent, out, store, n);
             Turn { core, sent: told }
         }
         _ => t,
@@ -134,8 +131,8 @@ fn frame_read(
     requires { ⌜ Hears (world t (now tables) (now store) (now out)) at × (t .core .bearer .present ≡ true) × (whole (held (t .core) (now tables) (now store)) ≡ true) ⌝ }
     ensures { λ r. ⌜ world r (now (tables .exit)) (now (store .exit)) (now (out .exit)) ≡ frameRead (world t (now (tables .entry)) (now (store .entry)) (now (out .entry))) at ⌝ }
 {
-    let n = fragments::frame_length(store);
-    let channel = fragments::frame_channel(store);
+    let n = link_fragments::frame_length(store);
+    let channel = link_fragments::frame_channel(store);
     let holding = t.core;
     let sent = t.sent;
     let core = link_frames::with_held(holding, 0);
@@ -182,7 +179,7 @@ fn hear(
 {
     let core = t.core;
     let bearer = core.bearer;
-    if fragments::is_dropped(bearer, start) {
+    if link_fragments::is_dropped(bearer, start) {
         return t;
     }
     gather(t, tables, store, out, at, start, fragment)

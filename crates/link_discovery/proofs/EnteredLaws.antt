@@ -4,16 +4,16 @@ use mathlib.Core.Path.{_≡_, _∙_}
 use mathlib.Core.Bool.{Bool, true, false}
 use lib.Dec.{eqb, leb}
 use borrow.Author.Tests.{le-leb, lt-leb, eq-eqb, ne-eqb}
-use Rattle.base.specs.Choice.{pick}
+use Rattle.bytes.specs.Choice.{pick}
 use Rattle.time.specs.declared.Micros.{Micros}
-use Rattle.services.specs.declared.Service.{Service}
+use Rattle.gatt_services.specs.declared.Service.{Service}
 use Rattle.state.specs.declared.StepStatus.the-variants.{TableFull}
-use Rattle.turns.specs.World.{World}
-use Rattle.discovery.specs.Discovery.{lastHandle, discoverServices, discoverCharacteristics, discoverDescriptors}
-use Rattle.questions.specs.declared.Goal.{Goal}
-use Rattle.answers.proofs.AnswerLaws.{yes, no}
-use Rattle.moves.specs.Moves.{over}
-use Rattle.service_walk.specs.Services.{servicesDone}
+use Rattle.script_rules.specs.World.{World}
+use Rattle.script_rules.specs.Discovery.{lastHandle, discoverServices, discoverCharacteristics, discoverDescriptors}
+use Rattle.link_questions.specs.declared.Goal.{Goal}
+use Rattle.link_rules.proofs.AnswerLaws.{yes, no}
+use Rattle.link_rules.specs.Moves.{over}
+use Rattle.link_rules.specs.Services.{servicesDone}
 use Rattle.link_discovery.specs.Entered.{servicesEntered, characteristicsEntered}
 
 module _ (v : World) (at : Micros) (g : Goal) (last : ℕ) (full : Bool) where

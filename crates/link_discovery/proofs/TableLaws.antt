@@ -4,28 +4,27 @@ use mathlib.Core.Path.{_≡_, refl, sym, ap, subst, _∙_}
 use mathlib.Core.Bool.{Bool}
 use mathlib.Core.List.{List}
 use Rattle.time.specs.declared.Micros.{Micros}
-use Rattle.services.specs.declared.Service.{Service}
-use Rattle.services.specs.declared.Services.{Services}
-use Rattle.services.specs.declared.Found as services-found
-use Rattle.services.specs.declared.Which.the-variants as which-service
-use Rattle.characteristics.specs.declared.Characteristics.{Characteristics}
-use Rattle.characteristics.specs.declared.Found as characteristics-found
-use Rattle.entries.specs.Cut.{entries, part}
-use Rattle.descriptors.specs.declared.Named.{Named}
-use Rattle.descriptors.proofs.Keeps.{named-count}
+use Rattle.gatt_services.specs.declared.Service.{Service}
+use Rattle.gatt_services.specs.declared.Found as services-found
+use Rattle.gatt_services.specs.declared.Which.the-variants as which-service
+use Rattle.gatt_characteristics.specs.declared.Characteristics.{Characteristics}
+use Rattle.gatt_characteristics.specs.declared.Found as characteristics-found
+use Rattle.lists.specs.Cut.{entries, part}
+use Rattle.gatt_descriptors.specs.declared.Named.{Named}
+use Rattle.gatt_descriptors.proofs.Keeps.{named-count}
 use Rattle.state.specs.Central as state
 use Rattle.state.specs.declared.Counts.{Counts}
-use Rattle.turns.specs.World.{World, told}
-use Rattle.turns.proofs.ReadyLaws.{ready-state}
-use Rattle.frames.specs.Payload.{payloadAt}
-use Rattle.questions.specs.declared.Goal.{Goal}
-use Rattle.answers.specs.Answers.{widthOf}
-use Rattle.moves.specs.Able.{Able}
-use Rattle.moves.specs.Moves.{become, afterRange}
-use Rattle.service_walk.specs.Services.{servicesFound, servicesHeard}
-use Rattle.service_walk.proofs.ServiceLaws.{services-kept, services-some}
-use Rattle.characteristic_walk.specs.Characteristics.{characteristicsFound, characteristicsHeard, goOn, descriptorsFound, descriptorsHeard}
-use Rattle.characteristic_walk.proofs.CharacteristicLaws.{characteristics-kept, characteristics-some, descriptors-kept, descriptors-some}
+use Rattle.script_rules.specs.World.{World, told}
+use Rattle.script_rules.proofs.ReadyLaws.{ready-state}
+use Rattle.link_rules.specs.Payload.{payloadAt}
+use Rattle.link_questions.specs.declared.Goal.{Goal}
+use Rattle.link_rules.specs.Answers.{widthOf}
+use Rattle.link_rules.specs.Able.{Able}
+use Rattle.link_rules.specs.Moves.{become, afterRange}
+use Rattle.link_rules.specs.Services.{servicesFound, servicesHeard}
+use Rattle.link_rules.proofs.ServiceLaws.{services-kept, services-some}
+use Rattle.link_rules.specs.Characteristics.{characteristicsFound, characteristicsHeard, goOn, descriptorsHeard}
+use Rattle.link_rules.proofs.CharacteristicLaws.{characteristics-kept, characteristics-some, descriptors-kept, descriptors-some}
 use Rattle.words.specs.Tables.{Tables, tables, withServices, withCharacteristics}
 use Rattle.words.proofs.RowLaws.{length-characteristics}
 use Rattle.words_service.specs.Taken as service-words

@@ -3,15 +3,15 @@
 use Prim.Native.Nat.{ℕ, _+_}
 use mathlib.Core.Bool.{Bool}
 use lib.Dec.{eqb, leb}
-use Rattle.base.specs.Choice.{pick}
+use Rattle.bytes.specs.Choice.{pick}
 use Rattle.time.specs.declared.Micros.{Micros}
-use Rattle.services.specs.declared.Service.{Service}
+use Rattle.gatt_services.specs.declared.Service.{Service}
 use Rattle.state.specs.declared.StepStatus.the-variants.{TableFull}
-use Rattle.turns.specs.World.{World}
-use Rattle.discovery.specs.Discovery.{lastHandle, discoverServices, discoverDescriptors, discoverCharacteristics}
-use Rattle.questions.specs.declared.Goal.{Goal}
-use Rattle.moves.specs.Moves.{over}
-use Rattle.service_walk.specs.Services.{servicesDone}
+use Rattle.script_rules.specs.World.{World}
+use Rattle.script_rules.specs.Discovery.{lastHandle, discoverServices, discoverDescriptors, discoverCharacteristics}
+use Rattle.link_questions.specs.declared.Goal.{Goal}
+use Rattle.link_rules.specs.Moves.{over}
+use Rattle.link_rules.specs.Services.{servicesDone}
 
 abbrev pub servicesEntered : World → Micros → Goal → ℕ → Bool → World
 servicesEntered v at g last full =

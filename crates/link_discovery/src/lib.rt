@@ -1,23 +1,19 @@
 // Discovery's answers: services, then the characteristics of a service, then their descriptors.
 ghost use mathlib.Core.Path.{_≡_};
-ghost use mathlib.Core.Bool.{Bool};
 ghost use Prim.Native.Nat.{_≤_};
-ghost use Rattle.services.specs.declared.Which.the-variants as which-service;
-ghost use Rattle.frames.specs.Payload.{payloadSize};
-ghost use Rattle.moves.specs.Able.{Able};
-ghost use Rattle.service_walk.specs.Services.{walkInto, servicesDone, servicesHeard};
-ghost use Rattle.characteristic_walk.specs.Characteristics.{characteristicsHeard, characteristicsDone, goOn, descriptorsHeard, rangeDone};
+ghost use Rattle.gatt_services.specs.declared.Which.the-variants as which-service;
+ghost use Rattle.link_rules.specs.Payload.{payloadSize};
+ghost use Rattle.link_rules.specs.Able.{Able};
+ghost use Rattle.link_rules.specs.Services.{walkInto, servicesDone, servicesHeard};
+ghost use Rattle.link_rules.specs.Characteristics.{characteristicsHeard, characteristicsDone, goOn, descriptorsHeard, rangeDone};
 ghost use Rattle.state_core.specs.Reading.{world};
 ghost use Rattle.link_discovery.specs.Entered.{servicesEntered, characteristicsEntered};
-use questions::Goal;
-use services::Service;
-use services::Which;
+use gatt_services::Service;
+use gatt_services::Which;
+use link_questions::Goal;
 use state::StepStatus;
 use state_core::Turn;
 use time::Micros;
-
-// No handle is after this one.
-const LAST_HANDLE: u16 = 0xFFFF;
 
 // The least entry of services: two handles and a UUID of two bytes.
 const SERVICE_SIZE: usize = 6;
@@ -88,7 +84,7 @@ fn services_entered(
     if full {
         return script_turns::end_turn(t, tables, store, at, StepStatus::TableFull);
     }
-    if last == LAST_HANDLE {
+    if last == att_pdu::LAST_HANDLE {
         return services_done(t, tables, store, out, at, g);
     }
     script_discovery::discover_services(t, out, at, last + 1)
@@ -114,12 +110,12 @@ pub fn services_heard(
     let mut core = t.core;
     let mut counts = core.counts;
     let sent = t.sent;
-    let end = answers::entries_end(n);
+    let end = link_fields::entries_end(n);
     let f = words_service::take_services(
         tables,
         counts.services,
         store,
-        answers::ENTRIES_AT,
+        link_fields::ENTRIES_AT,
         end,
         size,
     );
@@ -180,12 +176,12 @@ fn characteristics_in(
     let mut core = t.core;
     let mut counts = core.counts;
     let sent = t.sent;
-    let end = answers::entries_end(n);
+    let end = link_fields::entries_end(n);
     let f = words_characteristic::take_characteristics(
         tables,
         counts.characteristics,
         store,
-        answers::ENTRIES_AT,
+        link_fields::ENTRIES_AT,
         end,
         size,
         svc.end,
@@ -276,19 +272,19 @@ fn descriptors_in(
         ⌜ world r (now (tables .exit)) (now (store .exit)) (now (out .exit))
         ≡ descriptorsHeard (world t (now (tables .entry)) (now (store .entry)) (now (out .entry))) at n format (which-service.At svc) ⌝ }
 {
-    let size = answers::width_of(format);
+    let size = link_fields::width_of(format);
     let core = t.core;
     let counts = core.counts;
     let first = link_answers::after_range(core, tables, svc);
     if size == 0 {
         return go_on(t, tables, store, out, at, svc, first);
     }
-    let end = answers::entries_end(n);
+    let end = link_fields::entries_end(n);
     let next = words_characteristic::name_descriptors(
         tables,
         counts.characteristics,
         store,
-        answers::ENTRIES_AT,
+        link_fields::ENTRIES_AT,
         end,
         size,
         first,

@@ -3,16 +3,13 @@ ghost use mathlib.Core.Path.{_≡_};
 ghost use mathlib.Core.List.{List};
 ghost use Prim.Native.Nat.{ℕ, _+_, _≤_};
 ghost use lib.ListN.{length};
-ghost use Rattle.places.specs.Sizes.{frameSize};
-ghost use Rattle.fragments.specs.Fragment.{withHeld, heldBefore, gathered, whole, heldFits, gateFragment, refusing};
+ghost use Rattle.state_places.specs.Sizes.{frameSize};
+ghost use Rattle.link_rules.specs.Fragment.{withHeld, heldBefore, gathered, whole, heldFits, gateFragment, refusing};
 ghost use Rattle.state_core.specs.Reading.{central, held};
-use fit::refusal;
 use state::Bearer;
 use state_core::Core;
+use state_rules::refusal;
 use time::Micros;
-
-// Bytes of a frame before its payload: its length and its channel.
-const HEADER: usize = 4;
 
 // ---- what is held
 
@@ -43,8 +40,8 @@ pub fn gather(c: Core, store: &mut [u8], start: bool, fragment: &[u8]) -> Core
     let bearer = c.bearer;
     let from = held_before(bearer, start);
     let n = fragment.len();
-    let place = places::HELD_AT + from;
-    copies::copy_in(store, place, fragment, 0, n);
+    let place = state_places::HELD_AT + from;
+    bytes_copies::copy_in(store, place, fragment, 0, n);
     let total = from + n;
     with_held(c, total)
 }
@@ -55,10 +52,10 @@ pub fn is_whole(c: Core, store: &[u8]) -> bool
 {
     let bearer = c.bearer;
     let there = bearer.held;
-    if there < HEADER {
+    if there < l2cap::HEADER {
         return false;
     }
-    fragments::frame_length(store) <= there - HEADER
+    link_fragments::frame_length(store) <= there - l2cap::HEADER
 }
 
 // ---- refusals
@@ -67,10 +64,10 @@ pub fn is_whole(c: Core, store: &[u8]) -> bool
 fn held_fits(b: Bearer, start: bool, n: usize) -> bool
     ensures { λ r. ⌜ r ≡ heldFits b start n ⌝ }
 {
-    if fragments::is_dropped(b, start) {
+    if link_fragments::is_dropped(b, start) {
         return true;
     }
-    refusals::frame_fits(held_before(b, start), n)
+    state_refusals::frame_fits(held_before(b, start), n)
 }
 
 // In their order: 1, 2, 3, then 5, then 7.
@@ -85,15 +82,28 @@ pub fn gate_fragment(
 ) -> u8
     ensures { λ r. ⌜ r ≡ gateFragment (central c (now (tables .entry))) «store_len» «out_len» at start n ⌝ }
 {
-    let shared = state_fit::gate(c, tables, store_len, out_len, at);
+    if !state_fit::core_fits(c) {
+        return refusal::UNFIT;
+    }
+    let counts = c.counts;
+    let fit = state_fit::tables_fit(
+        tables,
+        counts.waiting,
+        counts.results,
+        counts.characteristics,
+        counts.notifications,
+    );
+    let sized = state_refusals::sizes_fit(store_len, out_len);
+    let late = time::too_late(at);
+    let shared = state_refusals::first_refusal(fit, sized, !late);
     if shared != refusal::ACCEPTED {
         return shared;
     }
     let counters = c.counters;
     let bearer = c.bearer;
-    let full = counters::is_full(counters);
+    let full = state_counters::is_full(counters);
     let fits = held_fits(bearer, start, n);
-    refusals::fragment_refusal(full, fits)
+    state_refusals::fragment_refusal(full, fits)
 }
 
 // The state that a refusal leaves: 7 alone empties what is held.

@@ -14,7 +14,7 @@ use denote.Exit.{yes, Last, left}
 use denote.Struct.Declared.{Declared, row, fields}
 use denote.Struct.Struct.{Plains, AreAll, toTys}
 use denote.Struct.Laws as LL
-use Rattle.walks.proofs.Data.{Data, struct}
+use Rattle.link_record_laws.proofs.Data.{Data, struct}
 
 module _ (T : Declared) (L : LL.Laws T) where
   -- each field's relation

@@ -4,7 +4,7 @@ use Rattle.state.proofs.Link as T
 use Rattle.state.proofs.Link.Laws as T′
 use Rattle.state.proofs.Bearer as B
 use Rattle.state.proofs.Bearer.Laws as B′
-use Rattle.walks.proofs.Data.{Data, struct}
+use Rattle.link_record_laws.proofs.Data.{Data, struct}
 use Rattle.link_record.specs.Record.{withLink}
 use Rattle.link_record.proofs.Field.{Field}
 

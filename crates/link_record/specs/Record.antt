@@ -1,12 +1,9 @@
 -- What becomes of the link record: handle, MTU, pending opcode (0: none) and terminating flag.
 use Prim.Native.Nat.{ℕ}
 use mathlib.Core.Bool.{true, false}
+use Rattle.att_pdu.specs.Numbers.{defaultMtu}
 use Rattle.state.specs.declared.Bearer.{Bearer}
 use Rattle.state.specs.declared.Link.{Link}
-
--- of a link on which none was exchanged (Core Vol 3 Part F 3.2.8)
-abbrev pub defaultMtu : ℕ
-defaultMtu = 23
 
 -- a new link: the default MTU, nothing awaited, not asked to end; nothing stays of what was
 abbrev pub opened : Link → ℕ → Link

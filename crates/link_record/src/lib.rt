@@ -4,15 +4,12 @@ ghost use Rattle.link_record.specs.Record.{opened, agreed, awaiting, ans
 use state::Bearer;
 use state::Link;
 
-// Core Vol 3 Part F 3.2.8: the MTU of a link on which none was exchanged.
-pub const DEFAULT_MTU: u16 = 23;
-
 // A new link: the default MTU, nothing awaited, not asked to end.
 fn open(link: &mut Link, handle: u16)
     ensures { λ _. ⌜ now (link .exit) ≡ opened (now (link .entry)) handle ⌝ }
 {
     link.handle = handle;
-    link.mtu = DEFAULT_MTU;
+    link.mtu = att_pdu::DEFAULT_MTU;
     link.pending = 0;
     link.terminating = false;
 }

@@ -7,25 +7,25 @@ use native.Mathlib.Omega.{arith}
 use lib.ListN.{length, length-take}
 use lib.Dec.{leb}
 use borrow.Author.Tests.{le-leb}
-use Rattle.base.specs.Bytes.{leAt}
-use Rattle.places.specs.Sizes.{storeSize, valueSize, mostNotifications}
-use Rattle.queues.specs.Queue.{pushed}
-use Rattle.queues.specs.QueueLaws.{length-pushed, pushed-within, all-pushed}
-use Rattle.queues.specs.Blocks.{bytes}
+use Rattle.bytes.specs.Bytes.{leAt}
+use Rattle.state_places.specs.Sizes.{storeSize, valueSize, mostNotifications}
+use Rattle.lists.specs.Queue.{pushed}
+use Rattle.lists.proofs.QueueLaws.{length-pushed, pushed-within, all-pushed}
+use Rattle.lists.specs.Blocks.{bytes}
 use Rattle.time.specs.declared.Micros.{Micros}
-use Rattle.waits.specs.Kept.{live, valuesFit, keeping, keptValue}
-use Rattle.waits.specs.KeptLaws.{live-keeping, length-kept}
-use Rattle.waits.specs.declared.Notification.{Notification}
-use Rattle.waits.specs.declared.Notifications.{Notifications}
+use Rattle.notifications.specs.Kept.{live, valuesFit, keeping, keptValue}
+use Rattle.notifications.proofs.KeptLaws.{live-keeping, length-kept}
+use Rattle.notifications.specs.declared.Notification.{Notification}
+use Rattle.notifications.specs.declared.Notifications.{Notifications}
 use Rattle.state.specs.Central.{Central}
 use Rattle.state.specs.declared.Counters.{Counters}
 use Rattle.state.specs.declared.Counts.{Counts}
 use Rattle.state.specs.declared.Sent.{Sent}
-use Rattle.turns.specs.World.{Held, Told, told}
-use Rattle.keeps.specs.Nearly.{Nearly}
-use Rattle.starts.specs.Wait.{Looks, checkWait}
-use Rattle.frames.specs.Payload.{payloadAt, Reads}
-use Rattle.replies.specs.Replies.{noted, keepOne, confirmed, notice}
+use Rattle.script_rules.specs.World.{Held, Told, told}
+use Rattle.script_rules.specs.Nearly.{Nearly}
+use Rattle.script_rules.specs.Wait.{Looks, checkWait}
+use Rattle.link_rules.specs.Payload.{payloadAt, Reads}
+use Rattle.link_rules.specs.Replies.{noted, keepOne, confirmed, notice}
 use Rattle.words.specs.Tables.{Tables, tables, withNotifications}
 use Rattle.words_notification.specs.Kept.{keptIn}
 use Rattle.state_core.specs.declared.Core.{Core}

@@ -3,34 +3,30 @@ ghost use mathlib.Core.Path.{_≡_};
 ghost use mathlib.Core.List.{List};
 ghost use Prim.Native.Nat.{ℕ, _≤_, _<_, max, min};
 ghost use lib.ListN.{length};
-ghost use Rattle.places.specs.Sizes.{valueSize};
-ghost use Rattle.fit.specs.Steps.{leastMtu, mostMtu};
-ghost use Rattle.fit.specs.Fit.{mostNotified};
-ghost use Rattle.turns.specs.World.{told};
-ghost use Rattle.turns.specs.Send.{Room};
-ghost use Rattle.frames.specs.Payload.{Reads};
-ghost use Rattle.replies.specs.Replies.{exchange, keepOne, confirmed, notice};
+ghost use Rattle.state_places.specs.Sizes.{valueSize};
+ghost use Rattle.state_rules.specs.Steps.{defaultMtu, mostMtu};
+ghost use Rattle.state_rules.specs.Fit.{mostNotified};
+ghost use Rattle.script_rules.specs.World.{told};
+ghost use Rattle.script_rules.specs.Send.{Room};
+ghost use Rattle.link_rules.specs.Payload.{Reads};
+ghost use Rattle.link_rules.specs.Replies.{exchange, keepOne, confirmed, notice};
 ghost use Rattle.state_core.specs.Reading.{held, world};
-use fit::MAX_MTU;
-use fit::MIN_MTU;
+use notifications::Notification;
 use state::Sent;
 use state_core::Core;
 use state_core::Turn;
+use state_rules::MAX_MTU;
 use time::Micros;
-use waits::Notification;
 
-// Bytes of a notification before its value: an opcode and a handle.
-const HEAD: usize = 3;
-
-const VALUE_AT: usize = frames::PAYLOAD_AT + HEAD;
+const VALUE_AT: usize = link_payload::PAYLOAD_AT + l2cap::ATT_HEAD;
 
 // ---- the peer's requests
 
 fn clamp(mtu: u16) -> u16
-    ensures { λ r. ⌜ r ≡ max leastMtu (min mtu mostMtu) ⌝ }
+    ensures { λ r. ⌜ r ≡ max defaultMtu (min mtu mostMtu) ⌝ }
 {
-    if mtu < MIN_MTU {
-        MIN_MTU
+    if mtu < att_pdu::DEFAULT_MTU {
+        att_pdu::DEFAULT_MTU
     } else if MAX_MTU < mtu {
         MAX_MTU
     } else {
@@ -47,7 +43,7 @@ pub fn exchange(t: Turn, out: &mut [u8], theirs: u16) -> Turn
     let sent = t.sent;
     let bearer = core.bearer;
     let pdu = att_pdu::exchange_mtu_rsp(MAX_MTU);
-    let told = turns::send(sent, out, wire::cid::ATT, &pdu);
+    let told = script_sends::send(sent, out, l2cap::cid::ATT, &pdu);
     core.bearer = link_record::agreed(bearer, clamp(theirs));
     Turn { core, sent: told }
 }
@@ -71,7 +67,7 @@ fn keep_one(
     let counters = c.counters;
     let mut counts = c.counts;
     let count = counts.notifications;
-    waits::keep_value(store, count, VALUE_AT, n);
+    notifications::keep_value(store, count, VALUE_AT, n);
     let len = n as u8;
     let one = Notification {
         at,
@@ -82,7 +78,7 @@ fn keep_one(
     let more = words_notification::keep(tables, count, one);
     counts.notifications = more;
     let mut o = c;
-    o.counters = notices::note(counters);
+    o.counters = link_notices::note(counters);
     o.counts = counts;
     o
 }
@@ -94,7 +90,7 @@ fn confirm(sent: Sent, out: &mut [u8], indication: bool) -> Sent
 {
     if indication {
         let pdu = att_pdu::confirmation();
-        return turns::send(sent, out, wire::cid::ATT, &pdu);
+        return script_sends::send(sent, out, l2cap::cid::ATT, &pdu);
     }
     sent
 }
@@ -116,9 +112,17 @@ pub fn notice(
 {
     let core = t.core;
     let sent = t.sent;
-    let handle = frames::number(store, n, 1);
+    let handle = link_payload::number(store, n, 1);
     let told = confirm(sent, out, indication);
-    let kept = keep_one(core, tables, store, at, handle, n - HEAD, indication);
+    let kept = keep_one(
+        core,
+        tables,
+        store,
+        at,
+        handle,
+        n - l2cap::ATT_HEAD,
+        indication,
+    );
     let next = script_wait::check_wait(kept, tables, store, at);
     Turn {
         core: next,

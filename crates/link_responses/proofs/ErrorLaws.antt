@@ -6,17 +6,17 @@ use borrow.Author.Tests.{eq-eqb, ne-eqb}
 use Rattle.uuid.specs.declared.Uuid.{Uuid}
 use Rattle.time.specs.declared.Micros.{Micros}
 use Rattle.att_pdu.specs.Numbers.{errAttributeNotFound}
-use Rattle.services.specs.declared.Which as service-which
+use Rattle.gatt_services.specs.declared.Which as service-which
 use Rattle.state.specs.declared.StepStatus.the-variants.{AttError}
-use Rattle.turns.specs.World.{World}
-use Rattle.questions.specs.declared.Goal.{Goal}
-use Rattle.questions.specs.declared.Asked.{Asked}
-use Rattle.questions.specs.declared.Asked.the-variants as asked-variants
-use Rattle.answers.proofs.AnswerLaws.{yes, no}
-use Rattle.moves.specs.Moves.{over, serviceOf}
-use Rattle.service_walk.specs.Services.{servicesDone}
-use Rattle.characteristic_walk.specs.Characteristics.{characteristicsDone, rangeDone}
-use Rattle.rules.specs.Errors.{absent, failed}
+use Rattle.script_rules.specs.World.{World}
+use Rattle.link_questions.specs.declared.Goal.{Goal}
+use Rattle.link_questions.specs.declared.Asked.{Asked}
+use Rattle.link_questions.specs.declared.Asked.the-variants as asked-variants
+use Rattle.link_rules.proofs.AnswerLaws.{yes, no}
+use Rattle.link_rules.specs.Moves.{over, serviceOf}
+use Rattle.link_rules.specs.Services.{servicesDone}
+use Rattle.link_rules.specs.Characteristics.{characteristicsDone, rangeDone}
+use Rattle.link_rules.specs.Errors.{absent, failed}
 
 module _ (w : World) (at : Micros) (a : Asked) where
   abbrev ends-with : World

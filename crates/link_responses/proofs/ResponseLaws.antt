@@ -6,31 +6,31 @@ use mathlib.Core.List.{List}
 use lib.Dec.{eqb}
 use lib.ListN.{getD}
 use borrow.Author.Tests.{eq-eqb, ne-eqb}
-use Rattle.base.specs.Choice.{pick}
-use Rattle.queues.specs.Blocks.{bytes}
-use Rattle.turns.specs.World.{World}
-use Rattle.turns.proofs.ReadyLaws.{ready-state}
-use Rattle.moves.specs.Able.{Able}
-use Rattle.moves.specs.Moves.{become, over, serviceOf, valueRead, unasked}
+use Rattle.bytes.specs.Choice.{pick}
+use Rattle.lists.specs.Blocks.{bytes}
+use Rattle.script_rules.specs.World.{World}
+use Rattle.script_rules.proofs.ReadyLaws.{ready-state}
+use Rattle.link_rules.specs.Able.{Able}
+use Rattle.link_rules.specs.Moves.{become, over, serviceOf, valueRead, unasked}
 use Rattle.time.specs.declared.Micros.{Micros}
 use Rattle.uuid.specs.declared.Uuid.{Uuid}
 use Rattle.state.specs.declared.StepStatus.the-variants.{Ok}
-use Rattle.questions.specs.declared.Goal.{Goal}
-use Rattle.service_walk.specs.Services.{servicesHeard}
-use Rattle.characteristic_walk.specs.Characteristics.{characteristicsHeard, descriptorsHeard}
-use Rattle.answers.proofs.AnswerLaws.{yes, no}
-use Rattle.base.specs.Bytes.{leAt}
+use Rattle.link_questions.specs.declared.Goal.{Goal}
+use Rattle.link_rules.specs.Services.{servicesHeard}
+use Rattle.link_rules.specs.Characteristics.{characteristicsHeard, descriptorsHeard}
+use Rattle.link_rules.proofs.AnswerLaws.{yes, no}
+use Rattle.bytes.specs.Bytes.{leAt}
 use Rattle.att_pdu.specs.Numbers.{opErrorRsp, opReadRsp, opWriteRsp}
-use Rattle.frames.specs.Payload.{Reads, payloadAt, payload, withMtu}
+use Rattle.link_rules.specs.Payload.{Reads, payloadAt, payload, withMtu}
 use Rattle.state_core.specs.declared.Turn.{Turn}
 use Rattle.state_core.specs.Reading.{central, world}
-use Rattle.questions.specs.declared.Asked.{Asked}
-use Rattle.rules.specs.Responses.{present, taken, onResponse}
-use Rattle.rules.specs.Errors.{failed}
-use Rattle.questions.specs.Questions.{askedBy}
-use Rattle.answers.specs.Answers.{smallerMtu, counts}
-use Rattle.services.specs.declared.Which as service-which
-use Rattle.questions.specs.declared.Asked.the-variants as asked-variants
+use Rattle.link_questions.specs.declared.Asked.{Asked}
+use Rattle.link_rules.specs.Responses.{present, taken, onResponse}
+use Rattle.link_rules.specs.Errors.{failed}
+use Rattle.link_questions.specs.Questions.{askedBy}
+use Rattle.link_rules.specs.Answers.{smallerMtu, counts}
+use Rattle.gatt_services.specs.declared.Which as service-which
+use Rattle.link_questions.specs.declared.Asked.the-variants as asked-variants
 
 -- ---- an answer of n bytes
 

@@ -1,14 +1,14 @@
 // A response of the peer: what it is an answer to, and what the running step does with it (the Rust's `on_response`).
 ghost use mathlib.Core.Path.{_≡_};
 ghost use Prim.Native.Nat.{_≤_};
-ghost use Rattle.frames.specs.Payload.{Reads, payloadSize};
-ghost use Rattle.moves.specs.Able.{Able};
-ghost use Rattle.rules.specs.Errors.{absent, failed};
-ghost use Rattle.rules.specs.Responses.{present, taken, onResponse};
+ghost use Rattle.link_rules.specs.Payload.{Reads, payloadSize};
+ghost use Rattle.link_rules.specs.Able.{Able};
+ghost use Rattle.link_rules.specs.Errors.{absent, failed};
+ghost use Rattle.link_rules.specs.Responses.{present, taken, onResponse};
 ghost use Rattle.state_core.specs.Reading.{world};
 use att_pdu::err;
 use att_pdu::op;
-use questions::Asked;
+use link_questions::Asked;
 use state::StepStatus;
 use state_core::Turn;
 use time::Micros;
@@ -80,7 +80,7 @@ fn present(
 {
     let core = t.core;
     let counts = core.counts;
-    let format = frames::byte(store, n, 1);
+    let format = link_payload::byte(store, n, 1);
     let size = format as usize;
     match a {
         Asked::Mtu(mtu) => link_answers::mtu_told(t, tables, store, at, n, mtu),
@@ -117,10 +117,10 @@ fn taken(
     let running = core.running;
     let step = running.step;
     if running.active {
-        let a = questions::asked_by(step, running.phase);
-        let opcode = frames::byte(store, n, 0);
+        let a = link_questions::asked_by(step, running.phase);
+        let opcode = link_payload::byte(store, n, 0);
         if opcode == op::ERROR_RSP {
-            let code = frames::byte(store, n, 4);
+            let code = link_payload::byte(store, n, 4);
             return failed(t, tables, store, out, at, code, a);
         }
         return present(t, tables, store, out, at, n, a);
@@ -143,7 +143,7 @@ pub fn on_response(
     let core = t.core;
     let bearer = core.bearer;
     let link = bearer.link;
-    if answers::counts(link.pending, store, n) {
+    if link_fields::counts(link.pending, store, n) {
         let u = link_answers::unask(t);
         return taken(u, tables, store, out, at, n);
     }

@@ -7,34 +7,34 @@ use native.Mathlib.Omega.{arith}
 use lib.ListN.{length}
 use lib.Dec.{eqb, leb}
 use borrow.Author.Tests.{eqb-true}
-use Rattle.base.specs.Choice.{pick}
-use Rattle.places.specs.Sizes.{mostKeys, dataSize}
-use Rattle.queues.specs.Blocks.{Valued}
+use Rattle.bytes.specs.Choice.{pick}
+use Rattle.state_places.specs.Sizes.{mostKeys, dataSize}
+use Rattle.lists.specs.Blocks.{Valued}
 use Rattle.state.specs.Central.{Central}
 use Rattle.state.specs.declared.Queue.{Queue}
 use Rattle.state.specs.declared.Queued.{Queued}
 use Rattle.state.specs.declared.Running.{Running}
 use Rattle.state.specs.declared.StepResult.{StepResult}
-use Rattle.fit.specs.Fit.{fits, waiting, mostNotified}
-use Rattle.fit.specs.FitLaws as fit-laws
-use Rattle.fit.specs.Gate.{firstRefusal, gate, gateQuiet}
-use Rattle.fit.specs.Refusals.{accepted, unfit, badBatch, counterFull, longData, longFrame, keysFull}
-use Rattle.turns.specs.World.{Held}
-use Rattle.keeps.specs.Timed.{Narrow, narrow, narrowAll}
-use Rattle.calls.specs.Outcome.{Outcome, done}
-use Rattle.batch.specs.Batch.{gateBatch, batchFits, countersFit}
-use Rattle.lasting.specs.Lasting.{Lasting, narrowBatch}
-use Rattle.lasting.proofs.FitGoesToFit.{fresh-lasts, push-steps-lasts, on-timer-lasts, on-connected-lasts, on-disconnected-lasts}
-use Rattle.lasting_link.proofs.FragmentLasts.{on-fragment-lasts}
-use Rattle.hearing.specs.Hearing as radio
-use Rattle.hearing.specs.Keeps as radio-keeps
-use Rattle.fragments.specs.Fragment.{gateFragment, heldFits}
-use Rattle.trails.specs.Calls.{Call, batch, timer, connected, disconnected, advertising, scanResponse, fragment, reads, does, left, run, gateOf, done?}
-use Rattle.trails.specs.Trail.{begins, goes, final}
-use Rattle.trails.proofs.Ends.{refusedOf, does-law}
-use Rattle.trails.proofs.Goes.{Off, radio-off, response-off}
-use Rattle.books.proofs.Books.{Books}
-use Rattle.books.proofs.Accounting.{fresh, books-fresh, books-call}
+use Rattle.state_rules.specs.Fit.{fits, waiting, mostNotified}
+use Rattle.state_rules.proofs.FitLaws as fit-laws
+use Rattle.state_rules.specs.Gate.{firstRefusal, gate, gateQuiet}
+use Rattle.state_rules.specs.Refusals.{accepted, unfit, badBatch, counterFull, longData, longFrame, keysFull}
+use Rattle.script_rules.specs.World.{Held}
+use Rattle.script_rules.specs.Timed.{Narrow, narrow, narrowAll}
+use Rattle.script_rules.specs.Outcome.{Outcome, done}
+use Rattle.script_rules.specs.Batch.{gateBatch, batchFits, countersFit}
+use Rattle.thm_fit.specs.Lasting.{Lasting, narrowBatch}
+use Rattle.thm_fit.proofs.FitGoesToFit.{fresh-lasts, push-steps-lasts, on-timer-lasts, on-connected-lasts, on-disconnected-lasts}
+use Rattle.thm_fit.proofs.FragmentLasts.{on-fragment-lasts}
+use Rattle.radio_rules.specs.Hearing as radio
+use Rattle.radio_rules.proofs.Keeps as radio-keeps
+use Rattle.link_rules.specs.Fragment.{gateFragment, heldFits}
+use Rattle.thm_trail.specs.Calls.{Call, batch, timer, connected, disconnected, advertising, scanResponse, fragment, reads, does, left, run, gateOf, done?}
+use Rattle.thm_trail.specs.Trail.{begins, goes, final}
+use Rattle.thm_trail.proofs.Ends.{refusedOf, does-law}
+use Rattle.thm_trail.proofs.Goes.{Off, radio-off, response-off}
+use Rattle.thm_accounting.proofs.Books.{Books}
+use Rattle.thm_accounting.proofs.Accounting.{fresh, books-fresh, books-call}
 
 -- ---- calls as their types allow
 

@@ -1,36 +1,36 @@
 -- THE PROMISES (demand 3), of every list of calls from a fresh state with any store contents, refused calls included.
 --
 -- `taken`: every step ever taken in, counted from the calls; `log`: every result ever given, dropped ones too, with its value, read off the
--- tables of the worlds that the calls pass through (trails/specs/Log.antt). `events`: what came in, the requests among the bytes written,
--- and the results, in their order (asks/specs/Events.antt). `OnWire`: wires/specs/Wire.antt. `handedIn`, `notices`: tallies/specs/Tally.antt.
+-- tables of the worlds that the calls pass through (thm_trail/specs/Log.antt). `events`: what came in, the requests among the bytes written,
+-- and the results, in their order (thm_requests/specs/Events.antt). `OnWire`: thm_wire/specs/Wire.antt. `handedIn`, `notices`: thm_counts/specs/Tally.antt.
 use Prim.Native.Nat.{ℕ, zero, suc, _+_, _-_, _<_}
 use mathlib.Core.Path.{_≡_, ap, _∙_}
 use mathlib.Core.Bool.{true}
 use mathlib.Core.List.{List, [], _∷_}
 use native.Mathlib.Omega.{arith}
 use lib.ListN.{length, drop, getD, length-drop}
-use Rattle.places.specs.Sizes.{mostResults}
-use Rattle.queues.specs.Queue.{newest}
-use Rattle.queues.specs.Blocks.{Valued}
+use Rattle.state_places.specs.Sizes.{mostResults}
+use Rattle.lists.specs.Queue.{newest}
+use Rattle.lists.specs.Blocks.{Valued}
 use Rattle.uuid.specs.declared.Uuid.{Uuid}
 use Rattle.state.specs.Fresh.{noQueued}
 use Rattle.state.specs.declared.StepResult.{StepResult}
 use Rattle.state.specs.declared.Step.the-variants.{Read}
 use Rattle.state.specs.declared.StepStatus.the-variants.{Ok}
-use Rattle.fit.specs.Fit.{fits, awaits}
-use Rattle.fit.specs.Refusals.{unfit}
-use Rattle.trails.specs.Calls.{Call, does, run}
-use Rattle.trails.specs.Log.{keptResults, log, taken}
-use Rattle.books.specs.InLine.{inLine}
-use Rattle.books.proofs.Numbered.{Numbered}
-use Rattle.books.proofs.Accounting.{fresh, books}
-use Rattle.tallies.specs.Tally.{handedIn, notices}
-use Rattle.tallies.proofs.Counted as tally
-use Rattle.wires.specs.Wire.{OnWire}
-use Rattle.wires.proofs.OnWire.{on-wire}
-use Rattle.asks.specs.Events.{events, Awaited, Answered}
-use Rattle.asks.proofs.Good.{noValued}
-use Rattle.asks.proofs.Sequences.{all}
+use Rattle.state_rules.specs.Fit.{fits, awaits}
+use Rattle.state_rules.specs.Refusals.{unfit}
+use Rattle.thm_trail.specs.Calls.{Call, does, run}
+use Rattle.thm_trail.specs.Log.{keptResults, log, taken}
+use Rattle.thm_accounting.specs.InLine.{inLine}
+use Rattle.thm_accounting.proofs.Numbered.{Numbered}
+use Rattle.thm_accounting.proofs.Accounting.{fresh, books}
+use Rattle.thm_counts.specs.Tally.{handedIn, notices}
+use Rattle.thm_counts.proofs.Counted as tally
+use Rattle.thm_wire.specs.Wire.{OnWire}
+use Rattle.thm_wire.proofs.OnWire.{on-wire}
+use Rattle.thm_requests.specs.Events.{events, Awaited, Answered}
+use Rattle.thm_requests.proofs.Good.{noValued}
+use Rattle.thm_requests.proofs.Sequences.{all}
 use Rattle.promises.specs.Fitness as fitness
 
 number-of : (k : ℕ) (l : List (Valued StepResult)) (i : ℕ) → Numbered k l → i < length l → getD l i noValued .entry .index ≡ k + i

@@ -7,23 +7,23 @@ use native.Mathlib.Omega.{arith}
 use lib.ListN.{length, getD, set}
 use lib.Dec.{eqb, ltb}
 use borrow.Author.Tests.{ne-eqb, eqb-false, not-true, not-false}
-use Rattle.base.specs.Choice.{pick}
-use Rattle.base.proofs.SpliceLaws.{length-splice}
-use Rattle.places.specs.Sizes.{storeSize, mostKeys, reportAt}
-use Rattle.queues.specs.BlockLaws.{length-stored}
+use Rattle.bytes.specs.Choice.{pick}
+use Rattle.bytes.proofs.SpliceLaws.{length-splice}
+use Rattle.state_places.specs.Sizes.{storeSize, mostKeys, reportAt}
+use Rattle.lists.proofs.BlockLaws.{length-stored}
 use Rattle.state.specs.Central.{Central}
 use Rattle.state.specs.Central as parts
 use Rattle.state.specs.declared.Reports.{Reports}
 use Rattle.state.specs.declared.Running.{Running}
-use Rattle.kinds.specs.Kinds.{isScan, isConnect}
-use Rattle.fit.specs.Gate.{gateQuiet}
-use Rattle.reports.specs.Key.{key, among}
-use Rattle.reports.specs.Reports.{reportPart, asked, placeOf, heardAgain, againStore, heardFirst, firstStore, lastPlace, responseBytes, askedToo}
-use Rattle.matching.specs.Matching.{scannable, listens, asks, chosen}
-use Rattle.matching.specs.declared.AdvAction.{AdvAction}
-use Rattle.matching.specs.declared.AdvAction.the-variants as action
-use Rattle.hearing.specs.Hearing.{Outcome, unchanged, thenData, Adv, line, due, refusal, acted, heard, advertised}
-use Rattle.hearing.specs.HearingLaws.{Passed, passed}
+use Rattle.state_kinds.specs.Kinds.{isScan, isConnect}
+use Rattle.state_rules.specs.Gate.{gateQuiet}
+use Rattle.adv_reports.specs.Key.{key, among}
+use Rattle.adv_reports.specs.Reports.{reportPart, asked, placeOf, heardAgain, againStore, heardFirst, firstStore, lastPlace, responseBytes, askedToo}
+use Rattle.radio_match.specs.Matching.{scannable, listens, asks, chosen}
+use Rattle.radio_match.specs.declared.AdvAction.{AdvAction}
+use Rattle.radio_match.specs.declared.AdvAction.the-variants as action
+use Rattle.radio_rules.specs.Hearing.{Outcome, unchanged, thenData, Adv, line, due, refusal, acted, heard, advertised}
+use Rattle.radio_rules.proofs.HearingLaws.{Passed, passed}
 use Rattle.words.specs.Tables.{Tables, tables, withReports, withKeys, whoIn, heardIn, keysIn}
 use Rattle.state_core.specs.declared.Core.{Core}
 use Rattle.state_core.specs.Reading.{centralOf, central}

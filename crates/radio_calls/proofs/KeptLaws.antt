@@ -1,5 +1,5 @@
 -- The report of an advertisement put into the words, the store and the count is what the definitions of the reports say.
-use Prim.Native.Nat.{ℕ, _≤_, _<_, min}
+use Prim.Native.Nat.{ℕ, _≤_, _<_}
 use mathlib.Core.Path.{_≡_, refl, sym, ap, _∙_}
 use mathlib.Core.Bool.{Bool, true, false}
 use mathlib.Core.List.{List}
@@ -7,15 +7,14 @@ use native.Mathlib.Omega.{arith}
 use lib.ListN.{length, take, getD}
 use lib.Dec.{ltb}
 use borrow.Author.Tests.{lt-ltb, le-ltb, ltb-true, ltb-false}
-use Rattle.base.specs.Choice.{pick}
+use Rattle.bytes.specs.Choice.{pick}
 use Rattle.time.specs.declared.Micros.{Micros}
-use Rattle.state.specs.declared.Reports.{Reports}
-use Rattle.reports.specs.Key.{seek}
-use Rattle.reports.specs.Reports.{noResponse, Line, placeOf, heardAgain, againStore, heardFirst, firstStore, lastPlace}
-use Rattle.reports.specs.Whole.{Whole}
-use Rattle.report_tables.specs.Tables.{putAt, blockAt, keptResponse, counted}
-use Rattle.report_tables.specs.TableLaws.{Put, put-place, put-last, put-found, block-place, block-new, line-known, line-new}
-use Rattle.words.specs.Words.{channelOf, pduOf, dataLenOf, responseOf}
+use Rattle.adv_reports.specs.Key.{seek}
+use Rattle.adv_reports.specs.Reports.{noResponse, Line, heardAgain, againStore, heardFirst, firstStore, lastPlace}
+use Rattle.adv_reports.specs.Whole.{Whole}
+use Rattle.adv_report_tables.specs.Tables.{blockAt, keptResponse, counted}
+use Rattle.adv_report_tables.proofs.TableLaws.{Put, put-place, put-last, put-found, block-place, block-new, line-known, line-new}
+use Rattle.words.specs.Words.{timeOf, channelOf, pduOf, dataLenOf, responseOf}
 use Rattle.words.specs.Tables.{Tables, word, tables, withReports, whoIn, heardIn}
 use Rattle.words.proofs.TableLaws.{table-length}
 use Rattle.words.proofs.RowLaws.{length-who}
@@ -29,7 +28,7 @@ pub line-place : (t : Tables) (i : ℕ) (x : Report) → i < 64 → reportPut t 
 line-place t i x h =
     rw (
       put-place (t .who) i (x .who) h,
-      put-place (t .heard .at) i (x .at .0) h,
+      put-place (t .heard .at) i (x .at) h,
       put-place (t .heard .channel) i (x .channel) h,
       put-place (t .heard .pdu) i (x .pdu) h,
       put-place (t .heard .len) i (x .len) h,
@@ -40,7 +39,7 @@ pub line-last : (t : Tables) (i : ℕ) (x : Report) → 64 ≤ i → reportPut (
 line-last t i x h =
     rw (
       put-last (t .who) i (x .who) h,
-      put-last (t .heard .at) i (x .at .0) h,
+      put-last (t .heard .at) i (x .at) h,
       put-last (t .heard .channel) i (x .channel) h,
       put-last (t .heard .pdu) i (x .pdu) h,
       put-last (t .heard .len) i (x .len) h,
@@ -67,7 +66,7 @@ unfolding heardIn
 whole-in w count =
     record {
       who = length-who w;
-      at = table-length 64 (λ i. word w 800 i);
+      at = table-length 64 (λ i. timeOf (word w 800 i));
       channel = table-length 64 (λ i. channelOf (word w 864 i));
       pdu = table-length 64 (λ i. pduOf (word w 864 i));
       len = table-length 64 (λ i. dataLenOf (word w 864 i));
@@ -81,7 +80,7 @@ module _ (w v : List ℕ) (count who i none len : ℕ) (at : Micros) (channel pd
     (kept : none ≡ keptResponse (heardIn w .response) count i) (size : len ≡ length d)
     (put : tables v ≡ lineAt (tables w) i (record { who = who; at = at; channel = channel; pdu = pdu; len = len; response = none })) where
   abbrev told : Line
-  told = record { who = who; at = at .0; channel = channel; pdu = pdu; len = len }
+  told = record { who = who; at = at; channel = channel; pdu = pdu; len = len }
 
   is-put : Put (reportsIn w count) i told none (whoIn v) (heardIn v .at) (heardIn v .channel) (heardIn v .pdu) (heardIn v .len) (heardIn v .response)
   is-put =

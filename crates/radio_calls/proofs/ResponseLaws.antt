@@ -2,18 +2,18 @@
 use Prim.Native.Nat.{ℕ, _≤_, _<_}
 use mathlib.Core.Path.{_≡_, sym, ap, _∙_}
 use mathlib.Core.List.{List}
-use lib.ListN.{length, take, set}
+use lib.ListN.{length, set}
 use lib.Seq.{set-getD}
 use borrow.Author.Tests.{lt-ltb, le-ltb, eq-eqb, ne-eqb}
 use Rattle.time.specs.declared.Micros.{Micros}
 use Rattle.state.specs.Central.{Central}
 use Rattle.state.specs.declared.Address.{Address}
-use Rattle.fit.specs.Gate.{gateQuiet}
-use Rattle.reports.specs.Key.{key, seek}
-use Rattle.reports.specs.Reports.{advertisers, placeOf, responded, responseStore}
-use Rattle.matching.specs.declared.AdvAction.the-variants as action
-use Rattle.hearing.specs.Hearing.{Outcome, unchanged, thenData, responseRefusal, scanResponded}
-use Rattle.hearing.specs.HearingLaws.{Passed, passed}
+use Rattle.state_rules.specs.Gate.{gateQuiet}
+use Rattle.adv_reports.specs.Key.{key, seek}
+use Rattle.adv_reports.specs.Reports.{advertisers, placeOf, responseStore}
+use Rattle.radio_match.specs.declared.AdvAction.the-variants as action
+use Rattle.radio_rules.specs.Hearing.{unchanged, thenData, responseRefusal, scanResponded}
+use Rattle.radio_rules.proofs.HearingLaws.{Passed, passed}
 use Rattle.words.specs.Tables.{Tables, tables, withReports}
 use Rattle.words_report.specs.declared.Report.{Report}
 use Rattle.words_report.specs.Places.{reportIn, reportPut}
@@ -24,7 +24,7 @@ use Rattle.state_core.specs.Reading.{centralOf, central}
 put-responded : (t : Tables) (i n : ℕ) (at : Micros) (was : Report) → was ≡ reportIn t i
     → reportPut t i (record { who = was .who; at = at; channel = was .channel; pdu = was .pdu; len = was .len; response = n })
     ≡ withReports t (t .who)
-    (record { at = set (t .heard .at) i (at .0); channel = t .heard .channel; pdu = t .heard .pdu; len = t .heard .len; response = set (t .heard .response) i n })
+    (record { at = set (t .heard .at) i at; channel = t .heard .channel; pdu = t .heard .pdu; len = t .heard .len; response = set (t .heard .response) i n })
 put-responded t i n at was e =
     rw (e, set-getD (t .who) i 0, set-getD (t .heard .channel) i 0, set-getD (t .heard .pdu) i 0, set-getD (t .heard .len) i 0)
 

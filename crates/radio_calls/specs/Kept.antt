@@ -4,12 +4,12 @@ use mathlib.Core.Path.{_≡_}
 use mathlib.Core.List.{List}
 use lib.ListN.{length, getD}
 use lib.Dec.{ltb}
-use Rattle.base.specs.Choice.{pick}
-use Rattle.places.specs.Sizes.{mostReports}
+use Rattle.bytes.specs.Choice.{pick}
+use Rattle.state_places.specs.Sizes.{mostReports}
 use Rattle.time.specs.declared.Micros.{Micros}
 use Rattle.state.specs.declared.Reports.{Reports}
-use Rattle.reports.specs.Reports.{Line, placeOf, heardAgain, againStore, heardFirst, firstStore, lastPlace}
-use Rattle.report_tables.specs.Tables.{putAt}
+use Rattle.adv_reports.specs.Reports.{Line, placeOf, heardAgain, againStore, heardFirst, firstStore, lastPlace}
+use Rattle.adv_report_tables.specs.Tables.{putAt}
 use Rattle.words.specs.Tables.{Tables, tables, withReports, whoIn, heardIn}
 use Rattle.words_report.specs.declared.Report.{Report}
 
@@ -18,7 +18,7 @@ abbrev pub lineAt : Tables → ℕ → Report → Tables
 lineAt t i x =
     withReports t (putAt (t .who) i (x .who))
     (record {
-      at = putAt (t .heard .at) i (x .at .0);
+      at = putAt (t .heard .at) i (x .at);
       channel = putAt (t .heard .channel) i (x .channel);
       pdu = putAt (t .heard .pdu) i (x .pdu);
       len = putAt (t .heard .len) i (x .len);
@@ -31,7 +31,7 @@ reportsIn w count = record { who = whoIn w; heard = heardIn w; count = count }
 
 -- what an advertisement tells
 abbrev pub heardLine : ℕ → Micros → ℕ → ℕ → List ℕ → Line
-heardLine who at channel pdu bytes = record { who = who; at = at .0; channel = channel; pdu = pdu; len = length bytes }
+heardLine who at channel pdu bytes = record { who = who; at = at; channel = channel; pdu = pdu; len = length bytes }
 
 -- ---- with it: the reports, the store, and its place
 

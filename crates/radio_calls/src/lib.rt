@@ -2,10 +2,10 @@
 ghost use mathlib.Core.Path.{_≡_};
 ghost use Prim.Native.Nat.{_≤_};
 ghost use lib.ListN.{length};
-ghost use Rattle.places.specs.Sizes.{mostReports, dataSize};
-ghost use Rattle.reports.specs.Reports.{noResponse};
-ghost use Rattle.report_tables.specs.Tables.{keptResponse};
-ghost use Rattle.hearing.specs.Hearing.{adv, advertised, scanResponded};
+ghost use Rattle.state_places.specs.Sizes.{mostReports, dataSize};
+ghost use Rattle.adv_reports.specs.Reports.{noResponse};
+ghost use Rattle.adv_report_tables.specs.Tables.{keptResponse};
+ghost use Rattle.radio_rules.specs.Hearing.{adv, advertised, scanResponded};
 ghost use Rattle.words.specs.Tables as all;
 ghost use Rattle.words.specs.Tables.{heardIn};
 ghost use Rattle.state_core.specs.Reading.{central};
@@ -13,11 +13,11 @@ ghost use Rattle.central_answers.specs.Answers.{Leaves};
 ghost use Rattle.radio_calls.specs.Kept.{lineAt, heardLine, Keeps};
 ghost use Rattle.radio_calls.specs.Outcomes.{outcome, taken};
 use central_answers::QuietAnswer;
-use matching::AdvAction;
-use places::MAX_REPORTS;
-use refusals::refusal;
+use radio_match::AdvAction;
 use state::Address;
 use state_core::Core;
+use state_places::MAX_REPORTS;
+use state_refusals::refusal;
 use time::Micros;
 use words_report::NO_RESPONSE;
 use words_report::Report;
@@ -36,8 +36,6 @@ struct Kept {
     response: u8,
 }
 
-const LAST: usize = MAX_REPORTS - 1;
-
 // ---- the report
 
 // At place i; where there is no such place, at the last, and the oldest goes.
@@ -50,7 +48,7 @@ fn put_line(tables: &mut [u64; 1056], i: usize, x: Report)
         return;
     }
     words_report::shift_reports(tables);
-    words_report::put_report(tables, LAST, x);
+    words_report::put_report(tables, adv_reports::LAST, x);
 }
 
 // The scan response of a known report stays; a new one has none.
@@ -82,7 +80,7 @@ fn keep(
 {
     let i = words_report::find_report(tables, count, key);
     let response = kept_response(tables, count, i);
-    let len = hearing::narrow(data.len());
+    let len = radio_rules::narrow(data.len());
     let x = Report {
         who: key,
         at,
@@ -92,9 +90,9 @@ fn keep(
         response,
     };
     put_line(tables, i, x);
-    report_tables::put_block(store, i, data);
-    let more = report_tables::counted(count, i);
-    let place = report_tables::last_place(i);
+    adv_report_tables::put_block(store, i, data);
+    let more = adv_report_tables::counted(count, i);
+    let place = adv_report_tables::last_place(i);
     Kept {
         place,
         count: more,
@@ -131,19 +129,19 @@ pub fn on_advertising(
     ensures refused { λ r. ⌜ Leaves (r .refusal) core (r .core) (now (tables .entry)) (now (tables .exit)) (now (store .entry)) (now (store .exit)) ⌝ }
 {
     let gate = state_fit::gate_quiet(core, tables, store.len(), at);
-    let why = hearing::then_data(gate, data.len());
+    let why = radio_rules::then_data(gate, data.len());
     if why != refusal::ACCEPTED {
         return unchanged(core, why);
     }
     let running = core.running;
-    if !matching::is_listening(running) {
+    if !radio_match::is_listening(running) {
         return unchanged(core, refusal::ACCEPTED);
     }
-    let key = reports::key_of(address);
+    let key = adv_reports::key_of(address);
     let asked = core.key_count;
-    let asks = matching::is_asking(running, pdu);
+    let asks = radio_match::is_asking(running, pdu);
     let new = words_report::is_due(asks, tables, asked, key);
-    if hearing::keys_full(new, asked) {
+    if radio_rules::keys_full(new, asked) {
         return unchanged(core, refusal::KEYS_FULL);
     }
     let kept = keep(tables, store, core.reports, key, at, channel, pdu, data);
@@ -159,7 +157,7 @@ pub fn on_advertising(
         };
     }
     let step = running.step;
-    let action = matching::choose(
+    let action = radio_match::choose(
         step,
         key,
         store,
@@ -190,19 +188,19 @@ pub fn on_scan_response(
     ensures refused { λ r. ⌜ Leaves (r .refusal) core (r .core) (now (tables .entry)) (now (tables .exit)) (now (store .entry)) (now (store .exit)) ⌝ }
 {
     let gate = state_fit::gate_quiet(core, tables, store.len(), at);
-    let why = hearing::then_data(gate, data.len());
+    let why = radio_rules::then_data(gate, data.len());
     if why != refusal::ACCEPTED {
         return QuietAnswer { core, refusal: why };
     }
     let count = core.reports;
-    let key = reports::key_of(address);
+    let key = adv_reports::key_of(address);
     let i = words_report::find_report(tables, count, key);
     if i < count {
         let mut x = words_report::report_at(tables, i);
         x.at = at;
-        x.response = hearing::narrow(data.len());
+        x.response = radio_rules::narrow(data.len());
         words_report::put_report(tables, i, x);
-        reports::put_response(store, i, data);
+        adv_reports::put_response(store, i, data);
         return QuietAnswer {
             core,
             refusal: refusal::ACCEPTED,

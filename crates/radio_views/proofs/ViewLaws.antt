@@ -5,21 +5,21 @@ use mathlib.Core.List.{List}
 use native.Mathlib.Omega.{arith}
 use lib.ListN.{length, take, drop, length-drop}
 use lib.Seq.{length-take-le}
-use Rattle.places.specs.Sizes.{reportAt}
+use Rattle.state_places.specs.Sizes.{reportAt}
 use Rattle.state.specs.declared.Address.{Address}
-use Rattle.reports.specs.Key.{addressOf}
-use Rattle.advertising.specs.declared.Place.{Place}
-use Rattle.advertising.specs.declared.Place.the-variants as place
-use Rattle.advertising.specs.Ad.{listedPlace}
-use Rattle.advertising.proofs.Searches.{found-at}
-use Rattle.fit.specs.Gate.{gateReader}
-use Rattle.sights.specs.declared.Span.{Span}
-use Rattle.sights.specs.declared.Response.{Response}
-use Rattle.sights.specs.declared.AdvReport.{AdvReport}
-use Rattle.sights.specs.declared.Seen.{Seen}
-use Rattle.sights.specs.declared.Seen.the-variants as seen
-use Rattle.sights.specs.View.{span, responseIn, view, dataIn, answerIn, part, partAt}
-use Rattle.sights.specs.ViewLaws.{view-refused, view-few, view-nothing, view-seen, data-fits, answer-fits, part-told}
+use Rattle.adv_reports.specs.Key.{addressOf}
+use Rattle.adv_data.specs.declared.Place.{Place}
+use Rattle.adv_data.specs.declared.Place.the-variants as place
+use Rattle.adv_data.specs.Ad.{listedPlace}
+use Rattle.adv_data.proofs.Searches.{found-at}
+use Rattle.state_rules.specs.Gate.{gateReader}
+use Rattle.radio_sights.specs.declared.Span.{Span}
+use Rattle.radio_sights.specs.declared.Response.{Response}
+use Rattle.radio_sights.specs.declared.AdvReport.{AdvReport}
+use Rattle.radio_sights.specs.declared.Seen.{Seen}
+use Rattle.radio_sights.specs.declared.Seen.the-variants as seen
+use Rattle.radio_sights.specs.View.{span, responseIn, view, dataIn, answerIn, part, partAt}
+use Rattle.radio_sights.proofs.ViewLaws.{view-refused, view-few, view-nothing, view-seen, data-fits, answer-fits, part-told}
 use Rattle.words.specs.Words.{dataLenOf}
 use Rattle.words.specs.Tables.{word, tables, heardIn}
 use Rattle.words.proofs.TableLaws.{table-length}

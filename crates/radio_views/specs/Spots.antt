@@ -1,15 +1,15 @@
 -- Where the bytes of what is seen stand in the store: a refusal, nowhere, or a place and a length.
 use Prim.Native.Nat.{ℕ, _+_}
 use mathlib.Core.List.{List}
-use Rattle.advertising.specs.declared.Place.{Place}
-use Rattle.advertising.specs.declared.Place.the-variants as place
-use Rattle.advertising.specs.Ad.{listedPlace}
-use Rattle.sights.specs.declared.Span.{Span}
-use Rattle.sights.specs.declared.Response.{Response}
-use Rattle.sights.specs.declared.Response.the-variants as response
-use Rattle.sights.specs.declared.Seen.{Seen}
-use Rattle.sights.specs.declared.Seen.the-variants as seen
-use Rattle.sights.specs.View.{span, spanOf, part}
+use Rattle.adv_data.specs.declared.Place.{Place}
+use Rattle.adv_data.specs.declared.Place.the-variants as place
+use Rattle.adv_data.specs.Ad.{listedPlace}
+use Rattle.radio_sights.specs.declared.Span.{Span}
+use Rattle.radio_sights.specs.declared.Response.{Response}
+use Rattle.radio_sights.specs.declared.Response.the-variants as response
+use Rattle.radio_sights.specs.declared.Seen.{Seen}
+use Rattle.radio_sights.specs.declared.Seen.the-variants as seen
+use Rattle.radio_sights.specs.View.{span, spanOf, part}
 use Rattle.radio_views.specs.declared.Spot.{Spot}
 use Rattle.radio_views.specs.declared.Spot.the-variants as spot
 

@@ -2,19 +2,19 @@
 ghost use mathlib.Core.Path.{_≡_};
 ghost use Prim.Native.Nat.{_+_, _≤_, _<_};
 ghost use lib.ListN.{length};
-ghost use Rattle.places.specs.Sizes.{mostReports};
+ghost use Rattle.state_places.specs.Sizes.{mostReports};
 ghost use Rattle.uuid.specs.Value.{num};
-ghost use Rattle.sights.specs.View.{responseIn, view, dataIn, answerIn, part, partAt, bodySeen, bodySeenAt};
+ghost use Rattle.radio_sights.specs.View.{responseIn, view, dataIn, answerIn, part, partAt, bodySeen, bodySeenAt};
 ghost use Rattle.state_core.specs.Reading.{central};
 ghost use Rattle.radio_views.specs.Spots.{placeIn, bodyIn, responseSpot, dataSeen, responseSeen, bodySpot};
-use advertising::Place;
-use places::MAX_DATA;
-use refusals::refusal;
-pub use sights::AdvReport;
-pub use sights::Response;
-pub use sights::Seen;
-pub use sights::Span;
+use adv_data::Place;
+pub use radio_sights::AdvReport;
+pub use radio_sights::Response;
+pub use radio_sights::Seen;
+pub use radio_sights::Span;
 use state_core::Core;
+use state_places::MAX_DATA;
+use state_refusals::refusal;
 use uuid::Uuid;
 
 // Where bytes stand in the store: refused, nowhere, or there.
@@ -42,7 +42,7 @@ fn response_in(i: usize, len: u8) -> Response
     if MAX_LENGTH < len {
         return Response::Nothing;
     }
-    let at = places::response_at(i);
+    let at = state_places::response_at(i);
     let n = wide(len);
     Response::At(Span { at, len: n })
 }
@@ -60,8 +60,8 @@ pub fn report(core: Core, tables: &[u64; 1056], store: &[u8], i: usize) -> Seen
     }
     let x = words_report::report_at(tables, i);
     let at = x.at;
-    let address = reports::address_of(x.who);
-    let place = places::report_at(i);
+    let address = adv_reports::address_of(x.who);
+    let place = state_places::report_at(i);
     let len = wide(x.len);
     let response = response_in(i, x.response);
     Seen::Is(AdvReport {
@@ -120,7 +120,7 @@ fn search_in(store: &[u8], x: Span, uuid: Uuid) -> Place
 {
     let from = x.at;
     let to = from + x.len;
-    match advertising::search(&store[from..to], uuid) {
+    match adv_data::search(&store[from..to], uuid) {
         Place::Body(start, len) => {
             let at = from + start;
             Place::Body(at, len)
@@ -148,8 +148,8 @@ pub fn report_body_at(core: Core, tables: &[u64; 1056], store: &[u8], i: usize, 
     ensures { λ r. ⌜ r ≡ bodySpot (num uuid) (now (store .entry)) (view (central core (now (tables .entry))) (length (now (store .entry))) i) ⌝ }
 {
     let x = report(core, tables, store, i);
-    let data = sights::data_in(x);
-    let answer = sights::answer_in(x);
+    let data = radio_sights::data_in(x);
+    let answer = radio_sights::answer_in(x);
     match x {
         Seen::Refused(why) => Spot::Refused(why),
         Seen::Nothing => Spot::Nothing,
@@ -164,7 +164,7 @@ pub fn report_data<'a>(core: Core, tables: &[u64; 1056], store: &'a [u8], i: usi
     ensures { λ r. ⌜ now r ≡ part (now (store .entry)) (dataIn (view (central core (now (tables .entry))) (length (now (store .entry))) i)) ⌝ }
     ensures { λ r. ⌜ r .ptr ≡ partAt (store .entry .ptr) (dataIn (view (central core (now (tables .entry))) (length (now (store .entry))) i)) ⌝ }
 {
-    let x = sights::data_in(report(core, tables, store, i));
+    let x = radio_sights::data_in(report(core, tables, store, i));
     let from = x.at;
     let to = from + x.len;
     &store[from..to]
@@ -175,7 +175,7 @@ pub fn report_response<'a>(core: Core, tables: &[u64; 1056], store: &'a [u8], i:
     ensures { λ r. ⌜ now r ≡ part (now (store .entry)) (answerIn (view (central core (now (tables .entry))) (length (now (store .entry))) i)) ⌝ }
     ensures { λ r. ⌜ r .ptr ≡ partAt (store .entry .ptr) (answerIn (view (central core (now (tables .entry))) (length (now (store .entry))) i)) ⌝ }
 {
-    let x = sights::answer_in(report(core, tables, store, i));
+    let x = radio_sights::answer_in(report(core, tables, store, i));
     let from = x.at;
     let to = from + x.len;
     &store[from..to]
@@ -194,5 +194,5 @@ pub fn report_body<'a>(
 {
     let data = report_data(core, tables, store, i);
     let response = report_response(core, tables, store, i);
-    listing::listed_body(data, response, uuid)
+    adv_listing::listed_body(data, response, uuid)
 }

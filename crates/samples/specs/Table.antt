@@ -5,40 +5,40 @@ use mathlib.Core.List.{List, [], _∷_}
 use mathlib.Core.Bool.{Bool, true, false, _&&_, not}
 use lib.ListN.{take, replicate}
 use lib.Dec.{eqb}
-use Rattle.base.specs.Choice.{among}
-use Rattle.base.specs.Bytes.{le, leBytes, leAt}
-use Rattle.base.specs.Splice.{splice, moved}
+use Rattle.bytes.specs.Choice.{among}
+use Rattle.bytes.specs.Bytes.{le, leBytes, leAt}
+use Rattle.bytes.specs.Splice.{splice, moved}
 use Rattle.uuid.specs.Value.{short}
 use Rattle.time.specs.declared.Micros.{Micros}
-use Rattle.places.specs.Sizes.{storeSize, outputSize}
-use Rattle.queues.specs.Queue.{all}
-use Rattle.entries.specs.Cut.{chunks, entries}
-use Rattle.advertising.specs.Ad.{listsService, reading, widthOf, uuidOf, anyLists}
-use Rattle.params.specs.Params.{goodParams}
-use Rattle.wire.specs.Numbers.{cidAtt, cidSignaling}
-use Rattle.wire.specs.Frame.{l2capFrame, framed}
-use Rattle.signaling.specs.Answer.{codeAnswer, signalingAnswer}
-use Rattle.characteristics.specs.Characteristic.{upFrom}
+use Rattle.state_places.specs.Sizes.{storeSize, outputSize}
+use Rattle.lists.specs.Queue.{all}
+use Rattle.lists.specs.Cut.{chunks, entries}
+use Rattle.adv_data.specs.Ad.{listsService, reading, widthOf, uuidOf, anyLists}
+use Rattle.l2cap_params.specs.Params.{goodParams}
+use Rattle.l2cap.specs.Numbers.{cidAtt, cidSignaling}
+use Rattle.l2cap.specs.Frame.{l2capFrame, framed}
+use Rattle.l2cap_signaling.specs.Answer.{codeAnswer, signalingAnswer}
+use Rattle.gatt_characteristics.specs.Characteristic.{upFrom}
 use Rattle.state.specs.Central.{Central}
 use Rattle.state.specs.Fresh.{freshCentral}
 use Rattle.state.specs.declared.Step.{Step}
 use Rattle.state.specs.declared.Step.the-variants.{ExchangeMtu, DiscoverServices}
-use Rattle.fit.specs.Fit.{countsFit, fits}
-use Rattle.fit.specs.Gate.{firstRefusal}
-use Rattle.fit.specs.Steps.{stepFits}
-use Rattle.turns.specs.Send.{send, request}
-use Rattle.waiting.specs.Waiting.{pushOne, pushAll, takeStep}
-use Rattle.discovery.specs.Discovery.{discoverServices}
-use Rattle.starts.specs.Start.{startLinked, start}
-use Rattle.script.specs.Script.{advances, advance}
-use Rattle.calls.specs.Outcome.{Outcome}
-use Rattle.batch.specs.Batch.{batchFits, countersFit, gateBatch, pushSteps}
-use Rattle.events.specs.Events.{connect, onConnected}
-use Rattle.replies.specs.Replies.{reply, onSignaling, refuse, exchange}
-use Rattle.rules.specs.Att.{byOpcode, onAtt}
-use Rattle.rules.specs.Channel.{onChannel}
-use Rattle.fragments.specs.Fragment.{gathered, heldFits, gateFragment}
-use Rattle.rules.specs.Link.{frameRead, gather, hear, onFragment}
+use Rattle.state_rules.specs.Fit.{countsFit, fits}
+use Rattle.state_rules.specs.Gate.{firstRefusal}
+use Rattle.state_rules.specs.Steps.{stepFits}
+use Rattle.script_rules.specs.Send.{send, request}
+use Rattle.script_rules.specs.Waiting.{pushOne, pushAll, takeStep}
+use Rattle.script_rules.specs.Discovery.{discoverServices}
+use Rattle.script_rules.specs.Start.{startLinked, start}
+use Rattle.script_rules.specs.Script.{advances, advance}
+use Rattle.script_rules.specs.Outcome.{Outcome}
+use Rattle.script_rules.specs.Batch.{batchFits, countersFit, gateBatch, pushSteps}
+use Rattle.script_rules.specs.Events.{connect, onConnected}
+use Rattle.link_rules.specs.Replies.{reply, onSignaling, refuse, exchange}
+use Rattle.link_rules.specs.Att.{byOpcode, onAtt}
+use Rattle.link_rules.specs.Channel.{onChannel}
+use Rattle.link_rules.specs.Fragment.{gathered, heldFits, gateFragment}
+use Rattle.link_rules.specs.Link.{frameRead, gather, hear, onFragment}
 
 pub data Row : Type 0 where
   -- advertising data, a 16-bit service, and whether the data lists it

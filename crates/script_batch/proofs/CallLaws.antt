@@ -5,21 +5,21 @@ use mathlib.Core.Bool.{true}
 use mathlib.Core.List.{List}
 use native.Mathlib.Omega.{arith}
 use lib.ListN.{length}
-use Rattle.queues.specs.Queue.{all}
-use Rattle.places.specs.Sizes.{mostSteps}
+use Rattle.lists.specs.Queue.{all}
+use Rattle.state_places.specs.Sizes.{mostSteps}
 use Rattle.time.specs.declared.Micros.{Micros}
 use Rattle.time.specs.Clock.{latest}
-use Rattle.turns.specs.World.{Held, World, onHeld}
-use Rattle.waiting.specs.declared.Batch.{Batch}
-use Rattle.waiting.specs.Batch.{steps}
-use Rattle.waiting.specs.Waiting.{pushAll}
-use Rattle.keeps.specs.Sound.{Sound}
-use Rattle.script.specs.Script.{advance}
-use Rattle.calls.specs.Outcome.{begins, done, refused}
-use Rattle.calls.proofs.GateLaws.{goes-through, is-stopped}
-use Rattle.batch.specs.Batch.{placedFits, gateBatch, pushSteps}
-use Rattle.batch.proofs.PushLaws.{largest}
-use Rattle.batch.proofs.CallLaws.{PassedBatch, passed-batch, pushed-sound}
+use Rattle.script_rules.specs.World.{Held, World, onHeld}
+use Rattle.script_rules.specs.declared.Batch.{Batch}
+use Rattle.script_rules.specs.BatchSteps.{steps}
+use Rattle.script_rules.specs.Waiting.{pushAll}
+use Rattle.script_rules.specs.Sound.{Sound}
+use Rattle.script_rules.specs.Script.{advance}
+use Rattle.script_rules.specs.Outcome.{begins, done, refused}
+use Rattle.script_rules.proofs.GateLaws.{goes-through, is-stopped}
+use Rattle.script_rules.specs.Batch.{placedFits, gateBatch, pushSteps}
+use Rattle.script_rules.proofs.PushLaws.{largest}
+use Rattle.script_rules.proofs.CallLaws.{PassedBatch, passed-batch, pushed-sound}
 use Rattle.state_core.specs.declared.Core.{Core}
 use Rattle.state_core.specs.declared.Turn.{Turn}
 use Rattle.state_core.specs.Reading.{central, held, world}

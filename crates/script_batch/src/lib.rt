@@ -1,13 +1,13 @@
 // push_steps: a batch of steps waits, and the script goes on.
 ghost use mathlib.Core.Path.{_≡_};
-ghost use Rattle.batch.specs.Batch.{gateBatch, pushSteps};
+ghost use Rattle.script_rules.specs.Batch.{gateBatch, pushSteps};
 ghost use Rattle.state_core.specs.Reading.{central};
 ghost use Rattle.central_answers.specs.Answers.{outcome, Leaves};
 use central_answers::Answer;
-use refusals::refusal;
+use script_rules::Batch;
 use state_core::Core;
+use state_refusals::refusal;
 use time::Micros;
-use waiting::Batch;
 
 // In their order: 1, 2, 3, then 4, then 5.
 fn gate_batch(
@@ -25,12 +25,12 @@ fn gate_batch(
     if shared != refusal::ACCEPTED {
         return shared;
     }
-    if !batches::batch_fits(b, size) {
+    if !script_limits::batch_fits(b, size) {
         return refusal::BAD_BATCH;
     }
     let n = c.counts;
     let k = c.counters;
-    if !batches::counters_fit(k, n.waiting, b.count) {
+    if !script_limits::counters_fit(k, n.waiting, b.count) {
         return refusal::COUNTER_FULL;
     }
     refusal::ACCEPTED

@@ -3,19 +3,19 @@ use Prim.Native.Nat.{ℕ, _≤_}
 use mathlib.Core.Path.{_≡_, sym, ap, subst, _∙_}
 use mathlib.Core.List.{List, []}
 use native.Mathlib.Omega.{arith}
-use Rattle.places.specs.Sizes.{heldAt}
+use Rattle.state_places.specs.Sizes.{heldAt}
 use Rattle.time.specs.declared.Micros.{Micros}
 use Rattle.att_pdu.specs.Pdu.{readByGroupTypeReq, findInformationReq}
-use Rattle.services.specs.declared.Service.{Service}
-use Rattle.descriptors.specs.declared.Range.{Range}
-use Rattle.descriptors.specs.declared.Range.the-variants.{Nothing, Is}
-use Rattle.descriptors.specs.Range.{descriptorRange}
+use Rattle.gatt_services.specs.declared.Service.{Service}
+use Rattle.gatt_descriptors.specs.declared.Range.{Range}
+use Rattle.gatt_descriptors.specs.declared.Range.the-variants.{Nothing, Is}
+use Rattle.gatt_descriptors.specs.Range.{descriptorRange}
 use Rattle.state.specs.declared.Sent.{Sent}
 use Rattle.state.specs.declared.StepStatus.the-variants.{Ok}
-use Rattle.turns.specs.World.{World, onHeld}
-use Rattle.turns.specs.Finish.{finish}
-use Rattle.turns.specs.Send.{Room, request}
-use Rattle.discovery.specs.Discovery.{lastHandle, primaryService, asking, discoverServices, askRange, discoverDescriptors}
+use Rattle.script_rules.specs.World.{World, onHeld}
+use Rattle.script_rules.specs.Finish.{finish}
+use Rattle.script_rules.specs.Send.{Room, request}
+use Rattle.script_rules.specs.Discovery.{lastHandle, primaryService, asking, discoverServices, askRange, discoverDescriptors}
 use Rattle.words_characteristic.specs.Parts.{inTable}
 use Rattle.state_core.specs.declared.Turn.{Turn}
 use Rattle.state_core.specs.Reading.{held, world}

@@ -3,13 +3,13 @@ ghost use mathlib.Core.Path.{_≡_};
 ghost use mathlib.Core.List.{List};
 ghost use Prim.Native.Nat.{ℕ, _≤_};
 ghost use lib.ListN.{length};
-ghost use Rattle.places.specs.Sizes.{mostCharacteristics};
-ghost use Rattle.turns.specs.Send.{Room};
-ghost use Rattle.turns.specs.Ready.{Ready};
-ghost use Rattle.discovery.specs.Discovery.{asking, discoverServices, discoverDescriptors, discoverCharacteristics};
+ghost use Rattle.state_places.specs.Sizes.{mostCharacteristics};
+ghost use Rattle.script_rules.specs.Send.{Room};
+ghost use Rattle.script_rules.specs.Ready.{Ready};
+ghost use Rattle.script_rules.specs.Discovery.{asking, discoverServices, discoverDescriptors, discoverCharacteristics};
 ghost use Rattle.state_core.specs.Reading.{world};
-use descriptors::Range;
-use services::Service;
+use gatt_descriptors::Range;
+use gatt_services::Service;
 use state::StepStatus;
 use state_core::Turn;
 use time::Micros;
@@ -17,8 +17,6 @@ use time::Micros;
 const PRIMARY_SERVICE: u16 = 0x2800;
 
 const CHARACTERISTIC: u16 = 0x2803;
-
-const LAST_HANDLE: u16 = 0xFFFF;
 
 // Discovery's phases.
 const SERVICES: u8 = 0;
@@ -45,7 +43,7 @@ pub fn discover_services(t: Turn, out: &mut [u8], at: Micros, from: u16) -> Turn
     requires { ⌜ Room (t .sent) (length (now out)) 7 ⌝ }
     ensures { λ r. ⌜ ((w s : List ℕ) → world r w s (now (out .exit)) ≡ discoverServices (world t w s (now (out .entry))) at from) ⌝ }
 {
-    let pdu = att_requests::read_by_group_type_req(from, LAST_HANDLE, PRIMARY_SERVICE);
+    let pdu = att_requests::read_by_group_type_req(from, att_pdu::LAST_HANDLE, PRIMARY_SERVICE);
     let u = ask_from(t, SERVICES, from);
     script_turns::request(u, out, at, &pdu)
 }

@@ -3,20 +3,20 @@ use Prim.Native.Nat.{ℕ}
 use mathlib.Core.Path.{_≡_, sym, ap, subst, _∙_}
 use mathlib.Core.Bool.{Bool, true, false, _||_}
 use mathlib.Core.List.{List}
-use Rattle.base.specs.Choice.{pick}
+use Rattle.bytes.specs.Choice.{pick}
 use Rattle.time.specs.declared.Micros.{Micros}
 use Rattle.state.specs.Central.{withBearer}
 use Rattle.state.specs.declared.Bearer.{Bearer}
 use Rattle.state.specs.declared.StepStatus.{StepStatus}
 use Rattle.state.specs.declared.StepStatus.the-variants.{Ok}
-use Rattle.turns.specs.World.{Held, World, onHeld, onState}
-use Rattle.starts.specs.Start.{ends}
-use Rattle.keeps.specs.Sound.{Sound, Whole}
-use Rattle.keeps.proofs.Starts.{stays-ends}
-use Rattle.script.specs.Script.{advance, advanceUnlinked}
-use Rattle.calls.proofs.BeginLaws.{sound-stays, whole-stays}
-use Rattle.comings.specs.Comings.{timedOut, due, expire, linked, isConnect, greeted, connect, unlinked, goesOn, cutStatus, cutOff, lose}
-use Rattle.comings.proofs.KeepLaws.{stays-met, stays-lost}
+use Rattle.script_rules.specs.World.{Held, World, onHeld, onState}
+use Rattle.script_rules.specs.Start.{ends}
+use Rattle.script_rules.specs.Sound.{Sound, Whole}
+use Rattle.script_rules.proofs.KeepStarts.{stays-ends}
+use Rattle.script_rules.specs.Script.{advance, advanceUnlinked}
+use Rattle.script_rules.proofs.CallBeginLaws.{sound-stays, whole-stays}
+use Rattle.script_rules.specs.Comings.{timedOut, due, expire, linked, isConnect, greeted, connect, unlinked, goesOn, cutStatus, cutOff, lose}
+use Rattle.script_rules.proofs.KeepEvents.{stays-met, stays-lost}
 use Rattle.link_record.specs.Record.{opened, withLink}
 use Rattle.state_core.specs.declared.Core.{Core}
 use Rattle.state_core.specs.declared.Turn.{Turn}

@@ -4,16 +4,16 @@ use mathlib.Core.Path.{_≡_, sym, ap, subst, _∙_}
 use mathlib.Core.List.{List}
 use lib.ListN.{length}
 use lib.Dec.{eqb}
-use Rattle.base.specs.Choice.{pick}
+use Rattle.bytes.specs.Choice.{pick}
 use Rattle.time.specs.declared.Micros.{Micros}
 use Rattle.time.specs.Clock.{latest}
-use Rattle.refusals.specs.Refusals.{accepted}
-use Rattle.fit.specs.Gate.{gate, gateQuiet}
-use Rattle.turns.specs.World.{Held, World}
-use Rattle.keeps.specs.Sound.{Sound, Whole}
-use Rattle.calls.specs.Outcome.{begins, done, refused, quietly, quietlyRefused}
-use Rattle.calls.proofs.BeginLaws.{may-begin, may-begin-quietly}
-use Rattle.calls.proofs.GateLaws.{goes-through, is-stopped}
+use Rattle.state_refusals.specs.Refusals.{accepted}
+use Rattle.state_rules.specs.Gate.{gate, gateQuiet}
+use Rattle.script_rules.specs.World.{Held, World}
+use Rattle.script_rules.specs.Sound.{Sound, Whole}
+use Rattle.script_rules.specs.Outcome.{begins, done, refused, quietly, quietlyRefused}
+use Rattle.script_rules.proofs.CallBeginLaws.{may-begin, may-begin-quietly}
+use Rattle.script_rules.proofs.GateLaws.{goes-through, is-stopped}
 use Rattle.state_core.specs.declared.Core.{Core}
 use Rattle.state_core.specs.declared.Turn.{Turn}
 use Rattle.state_core.specs.Reading.{central, held, world}

@@ -2,21 +2,21 @@
 ghost use mathlib.Core.Path.{_≡_};
 ghost use Prim.Native.Nat.{_≤_};
 ghost use lib.ListN.{length};
-ghost use Rattle.places.specs.Sizes.{storeSize, mostResults};
+ghost use Rattle.state_places.specs.Sizes.{storeSize, mostResults};
 ghost use Rattle.time.specs.Clock.{latest};
-ghost use Rattle.timeouts.specs.Timeouts.{timedOut};
-ghost use Rattle.comings.specs.Comings.{greeted, goesOn, cutStatus, expire, connect, cutOff, lose};
-ghost use Rattle.keeps.specs.Sound.{Sound, Whole};
-ghost use Rattle.events.specs.Events.{onTimer, onConnected, onDisconnected};
+ghost use Rattle.script_rules.specs.Timeouts.{timedOut};
+ghost use Rattle.script_rules.specs.Comings.{greeted, goesOn, cutStatus, expire, connect, cutOff, lose};
+ghost use Rattle.script_rules.specs.Sound.{Sound, Whole};
+ghost use Rattle.script_rules.specs.Events.{onTimer, onConnected, onDisconnected};
 ghost use Rattle.state_core.specs.Reading.{central, held, world};
 ghost use Rattle.central_answers.specs.Answers.{outcome, quiet, Leaves};
 use central_answers::Answer;
 use central_answers::QuietAnswer;
-use refusals::refusal;
 use state::Step;
 use state::StepStatus;
 use state_core::Core;
 use state_core::Turn;
+use state_refusals::refusal;
 use time::Micros;
 
 // ---- the timer
@@ -25,7 +25,9 @@ use time::Micros;
 fn timed_out(step: Step) -> StepStatus
     ensures { λ r. ⌜ r ≡ timedOut step ⌝ }
 {
-    if kinds::is_kind(step, kinds::SCAN) | kinds::is_kind(step, kinds::WAIT) {
+    if state_kinds::is_kind(step, state_kinds::SCAN)
+        | state_kinds::is_kind(step, state_kinds::WAIT)
+    {
         return StepStatus::Ok;
     }
     StepStatus::Timeout
@@ -38,7 +40,7 @@ fn expire(t: Turn, tables: &mut [u64; 1056], store: &mut [u8], out: &mut [u8], a
 {
     let core = t.core;
     let running = core.running;
-    if timeouts::is_due(running, at) {
+    if script_timeouts::is_due(running, at) {
         let step = running.step;
         let u = script_turns::end_turn(t, tables, store, at, timed_out(step));
         return script_run::advance(u, tables, store, out, at);
@@ -75,7 +77,7 @@ fn greet(c: Core, tables: &mut [u64; 1056], store: &mut [u8], at: Micros) -> Cor
 {
     let running = c.running;
     let step = running.step;
-    if kinds::is_kind(step, kinds::CONNECT) {
+    if state_kinds::is_kind(step, state_kinds::CONNECT) {
         return script_turns::end(c, tables, store, at, StepStatus::Ok);
     }
     c
@@ -130,15 +132,16 @@ pub fn on_connected(
 fn goes_on(step: Step) -> bool
     ensures { λ r. ⌜ r ≡ goesOn step ⌝ }
 {
-    kinds::is_kind(step, kinds::SCAN)
-        | (kinds::is_kind(step, kinds::CONNECT) | kinds::is_kind(step, kinds::WAIT))
+    state_kinds::is_kind(step, state_kinds::SCAN)
+        | (state_kinds::is_kind(step, state_kinds::CONNECT)
+            | state_kinds::is_kind(step, state_kinds::WAIT))
 }
 
 // How a step that needs a link ends without one.
 fn cut_status(step: Step) -> StepStatus
     ensures { λ r. ⌜ r ≡ cutStatus step ⌝ }
 {
-    if kinds::is_kind(step, kinds::DISCONNECT) {
+    if state_kinds::is_kind(step, state_kinds::DISCONNECT) {
         return StepStatus::Ok;
     }
     StepStatus::Disconnected

@@ -1,31 +1,31 @@
 -- What each return asks, from what the callees ensure.
 use Prim.Native.Nat.{ℕ, _+_, _-_, _*_, _≤_, _<_}
-use mathlib.Core.Path.{_≡_, refl, sym, ap, _∙_}
+use mathlib.Core.Path.{_≡_, refl, ap, _∙_}
 use mathlib.Core.List.{List, [], _∷_, _++_}
-use lib.ListN.{length, drop, getD, set}
+use lib.ListN.{length, take, drop, getD, set}
 use borrow.Author.Tests.{lt-ltb, le-ltb}
 use mathlib.Core.Bool.{Bool, true, false}
-use Rattle.base.specs.Choice.{pick}
-use Rattle.base.specs.Splice.{splice, moved}
-use Rattle.queues.specs.Queue.{shifted}
-use Rattle.places.specs.Sizes.{mostSteps, valueSize, runningAt, waitingAt}
-use Rattle.kinds.specs.Kinds.{carries}
-use Rattle.state.specs.Central.{Central, withQueue}
+use Rattle.bytes.specs.Choice.{pick}
+use Rattle.bytes.specs.Splice.{splice, moved}
+use Rattle.lists.specs.Queue.{shifted, all}
+use Rattle.state_places.specs.Sizes.{mostSteps, valueSize, runningAt, waitingAt}
+use Rattle.state.specs.Central.{withQueue}
 use Rattle.state.specs.Fresh.{noQueued}
-use Rattle.state.specs.declared.Counters.{Counters}
 use Rattle.state.specs.declared.Queue.{Queue}
 use Rattle.state.specs.declared.Queued.{Queued}
-use Rattle.turns.specs.World.{Held}
-use Rattle.waiting.specs.declared.Placed.{Placed}
-use Rattle.waiting.specs.Batch.{valueLen, queued}
-use Rattle.waiting.specs.Waiting.{waiting, queueing, refusing, pushOne, takeStep}
-use Rattle.waiting.proofs.WaitingLaws.{join-law, rest-law}
+use Rattle.script_rules.specs.declared.Placed.{Placed}
+use Rattle.script_rules.specs.BatchSteps.{valueLen, queued}
+use Rattle.script_rules.specs.Waiting.{waiting, queueing, pushOne, pushAll, takeStep}
+use Rattle.script_rules.proofs.WaitingLaws.{join-law, rest-law}
+use Rattle.script_rules.specs.Batches.{placedFits}
+use Rattle.script_rules.proofs.PushLaws.{Pushing, pushing-start, pushing-end}
 use Rattle.words.specs.Tables.{Tables, tables, stepsIn, withSteps}
 use Rattle.words.proofs.RowLaws.{length-steps}
 use Rattle.words_step.specs.Carried.{carried}
 use Rattle.state_core.specs.declared.Core.{Core}
-use Rattle.state_core.specs.Reading.{centralOf, central, held, withCounters, withCounts}
-use Rattle.script_queue.specs.Numbers.{withWaiting, started}
+use Rattle.state_core.specs.Reading.{centralOf, central, held}
+use Rattle.script_queue.specs.declared.Line.{Line}
+use Rattle.script_queue.specs.Numbers.{largest, lineOf, withLine, started}
 
 -- ---- one more
 
@@ -33,23 +33,37 @@ twice : (b : Bool) (x : ℕ) → pick b (pick b x 0) 0 ≡ pick b x 0
 twice true x = refl
 twice false x = refl
 
-module _ (c : Core) (w s values : List ℕ) (p : Placed) where
-  pub pushed-in : (w' s' : List ℕ) (n at : ℕ) → c .counts .waiting < mostSteps → n ≡ valueLen p → at ≡ waitingAt (c .counts .waiting) → s' ≡ splice s at values (p .place) n
-      → tables w' ≡ withSteps (tables w) (set (stepsIn w) (c .counts .waiting) (carried (p .step) n))
-      → held (withCounts c (withWaiting (c .counts) (c .counts .waiting + 1))) w' s' ≡ pushOne (held c w s) values p
+module _ (l : Line) (w s values : List ℕ) (p : Placed) where
+  pub pushed-in : (w' s' : List ℕ) (n at : ℕ) → l .waiting < mostSteps → n ≡ valueLen p → at ≡ waitingAt (l .waiting) → s' ≡ splice s at values (p .place) n
+      → tables w' ≡ withSteps (tables w) (set (stepsIn w) (l .waiting) (carried (p .step) n))
+      → (c : Core) → held (withLine c (record { waiting = l .waiting + 1; refused = l .refused })) w' s' ≡ pushOne (held (withLine c l) w s) values p
   unfolding pushOne
-  pushed-in w' s' n at h e₁ e₂ e₃ put =
-      let q : Queue = central c w .queue in
+  pushed-in w' s' n at h e₁ e₂ e₃ put c =
+      let q : Queue = central (withLine c l) w .queue in
       let x : carried (p .step) n ≡ queued p = rw (e₁, twice) in
-      let j : _≡_ {A = Queue} (record { kept = set (stepsIn w) (c .counts .waiting) (carried (p .step) n); count = c .counts .waiting + 1 }) (queueing q (waiting q ++ (queued p ∷ []))) =
+      let j : _≡_ {A = Queue} (record { kept = set (stepsIn w) (l .waiting) (carried (p .step) n); count = l .waiting + 1 }) (queueing q (waiting q ++ (queued p ∷ []))) =
       rw x (join-law q (queued p) (length-steps w) h) in
-      ap (λ (t : Tables). record { state = centralOf (withCounts c (withWaiting (c .counts) (c .counts .waiting + 1))) t; store = s' }) put
-      ∙ ap (λ (y : Queue). record { state = withQueue (central c w) y; store = s' }) j
-      ∙ rw (lt-ltb (c .counts .waiting) mostSteps h, e₃, e₂, e₁)
+      ap (λ (t : Tables). record { state = centralOf (withLine c (record { waiting = l .waiting + 1; refused = l .refused })) t; store = s' }) put
+      ∙ ap (λ (y : Queue). record { state = withQueue (central (withLine c l) w) y; store = s' }) j
+      ∙ rw (lt-ltb (l .waiting) mostSteps h, e₃, e₂, e₁)
 
-  pub pushed-over : (k : Counters) → mostSteps ≤ c .counts .waiting → k ≡ refusing (c .counters) → held (withCounters c k) w s ≡ pushOne (held c w s) values p
+  pub pushed-over : mostSteps ≤ l .waiting
+      → (c : Core) → held (withLine c (record { waiting = l .waiting; refused = l .refused + 1 })) w s ≡ pushOne (held (withLine c l) w s) values p
   unfolding pushOne
-  pushed-over k h e = rw (e, le-ltb (c .counts .waiting) mostSteps h)
+  pushed-over h c = rw (le-ltb (l .waiting) mostSteps h)
+
+-- ---- the loop: a core is carried as its line
+
+pub line-start : (c : Core) (l : Line) (w s values : List ℕ) (placed : List Placed) (count : ℕ) → l ≡ lineOf c → length placed ≡ 64 → count ≤ mostSteps
+    → all (placedFits (length values)) (take count placed) ≡ true → c .counters .«refused_steps» + count < largest
+    → Pushing (held c w s) (held (withLine c l) w s) values placed count 0
+line-start c l w s values placed count e k m f r = rw e (pushing-start (held c w s) values placed count k m f r)
+
+pub line-end : (c r : Core) (l : Line) (w s w' s' values : List ℕ) (placed : List Placed) (count i : ℕ)
+    → Pushing (held c w s) (held (withLine c l) w' s') values placed count i → count ≤ i → r ≡ withLine c l
+    → held r w' s' ≡ pushAll (held c w s) values (take count placed)
+line-end c r l w s w' s' values placed count i v k e =
+    ap (λ (x : Core). held x w' s') e ∙ pushing-end (held c w s) (held (withLine c l) w' s') values placed count i v k
 
 -- ---- the first begins
 

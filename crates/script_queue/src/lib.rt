@@ -3,20 +3,20 @@ ghost use mathlib.Core.Path.{_≡_};
 ghost use mathlib.Core.Bool.{true};
 ghost use Prim.Native.Nat.{_+_, _≤_, _<_};
 ghost use lib.ListN.{length};
-ghost use Rattle.places.specs.Sizes.{mostSteps, valueSize};
-ghost use Rattle.queues.specs.Queue.{all};
-ghost use Rattle.batches.specs.Batches.{placedFits};
-ghost use Rattle.waiting.specs.Batch.{valueLen, steps};
-ghost use Rattle.waiting.specs.Waiting.{refusing, pushOne, pushAll, takeStep};
+ghost use Rattle.state_places.specs.Sizes.{mostSteps, valueSize};
+ghost use Rattle.lists.specs.Queue.{all};
+ghost use Rattle.script_rules.specs.Batches.{placedFits};
+ghost use Rattle.script_rules.specs.BatchSteps.{valueLen, steps};
+ghost use Rattle.script_rules.specs.Waiting.{pushOne, pushAll, takeStep};
+ghost use Rattle.state_core.specs.declared.Core.{Core};
 ghost use Rattle.state_core.specs.Reading.{held};
-ghost use Rattle.script_queue.specs.Numbers.{largest, lastIndex, started};
-use state::Counters;
+ghost use Rattle.script_queue.specs.Numbers.{largest, lastIndex, lineOf, withLine, started};
+use script_rules::Batch;
+use script_rules::Placed;
 use state::Queued;
 use state::Running;
 use state_core::Core;
 use time::Micros;
-use waiting::Batch;
-use waiting::Placed;
 
 // ---- one more
 
@@ -25,49 +25,63 @@ fn value_len(p: Placed) -> usize
     ensures { λ r. ⌜ r ≡ valueLen p ⌝ }
 {
     let step = p.step;
-    if kinds::carries(step) {
+    if state_kinds::carries(step) {
         return p.len;
     }
     0
 }
 
-// One more step was refused.
-fn refuse(k: Counters) -> Counters
-    requires { ⌜ k .«refused_steps» < largest ⌝ }
-    ensures { λ r. ⌜ r ≡ refusing k ⌝ }
+// All that a batch changes of the core: a loop that carries these two numbers goes faster than one that carries the core.
+struct Line {
+    waiting: usize,
+    refused: u64,
+}
+
+fn line_of(c: Core) -> Line
+    ensures { λ r. ⌜ r ≡ lineOf c ⌝ }
 {
-    let mut o = k;
-    o.refused_steps = k.refused_steps + 1;
+    let counts = c.counts;
+    let counters = c.counters;
+    Line {
+        waiting: counts.waiting,
+        refused: counters.refused_steps,
+    }
+}
+
+fn with_line(c: Core, l: Line) -> Core
+    ensures { λ r. ⌜ r ≡ withLine c l ⌝ }
+{
+    let mut counts = c.counts;
+    let mut counters = c.counters;
+    counts.waiting = l.waiting;
+    counters.refused_steps = l.refused;
+    let mut o = c;
+    o.counts = counts;
+    o.counters = counters;
     o
 }
 
 // A step waits behind the others, with its value; or is counted, where 64 wait.
-pub fn push_one(
-    c: Core,
-    tables: &mut [u64; 1056],
-    store: &mut [u8],
-    values: &[u8],
-    p: Placed,
-) -> Core
-    requires { ⌜ (valueLen p ≤ valueSize) × (c .counters .«refused_steps» < largest) ⌝ }
-    ensures { λ r. ⌜ held r (now (tables .exit)) (now (store .exit)) ≡ pushOne (held c (now (tables .entry)) (now (store .entry))) (now (values .entry)) p ⌝ }
+fn push_one(l: Line, tables: &mut [u64; 1056], store: &mut [u8], values: &[u8], p: Placed) -> Line
+    requires { ⌜ (valueLen p ≤ valueSize) × (l .refused < largest) ⌝ }
+    ensures { λ r. ⌜ ((c : Core) → held (withLine c r) (now (tables .exit)) (now (store .exit)) ≡ pushOne (held (withLine c l) (now (tables .entry)) (now (store .entry))) (now (values .entry)) p) ⌝ }
 {
-    let mut counts = c.counts;
-    let count = counts.waiting;
-    let mut o = c;
-    if count < places::MAX_STEPS {
+    let count = l.waiting;
+    let refused = l.refused;
+    if count < state_places::MAX_STEPS {
         let n = value_len(p);
-        let at = places::waiting_at(count);
+        let at = state_places::waiting_at(count);
         let step = p.step;
-        copies::copy_in(store, at, values, p.place, n);
+        bytes_copies::copy_in(store, at, values, p.place, n);
         words_step::put_step(tables, count, step, n as u8);
-        counts.waiting = count + 1;
-        o.counts = counts;
-        return o;
+        let waiting = count + 1;
+        return Line { waiting, refused };
     }
-    let counters = c.counters;
-    o.counters = refuse(counters);
-    o
+    let more = refused + 1;
+    Line {
+        waiting: count,
+        refused: more,
+    }
 }
 
 // The steps of a batch wait, one after another.
@@ -83,14 +97,14 @@ pub fn push_all(
 {
     let all = b.steps;
     let count = b.count;
-    let mut d = c;
+    let mut l = line_of(c);
     let mut i = 0;
     while i < count {
         let p = all[i];
-        d = push_one(d, tables, store, values, p);
+        l = push_one(l, tables, store, values, p);
         i += 1;
     }
-    d
+    with_line(c, l)
 }
 
 // ---- the first begins
@@ -132,8 +146,13 @@ pub fn take_step(c: Core, tables: &mut [u64; 1056], store: &mut [u8]) -> Core
     let counts = c.counts;
     let count = counts.waiting;
     let first = words_step::queued_at(tables, 0);
-    let size = places::MAX_VALUE * count;
-    copies::copy_within(store, places::RUNNING_AT, places::WAITING_AT, size);
+    let size = state_places::MAX_VALUE * count;
+    bytes_copies::copy_within(
+        store,
+        state_places::RUNNING_AT,
+        state_places::WAITING_AT,
+        size,
+    );
     words_step::shift_steps(tables, count - 1);
     start(c, first)
 }

@@ -1,22 +1,22 @@
 -- What a step that begins asks of what it calls, and what each return asks.
-use Prim.Native.Nat.{ℕ, _≤_, _<_}
+use Prim.Native.Nat.{_≤_, _<_}
 use mathlib.Core.Path.{_≡_, sym, ap, subst, _∙_}
 use mathlib.Core.Bool.{true}
 use native.Mathlib.Omega.{arith}
 use lib.ListN.{length}
-use Rattle.places.specs.Sizes.{storeSize, mostSteps, mostResults}
+use Rattle.state_places.specs.Sizes.{storeSize, mostSteps, mostResults}
 use Rattle.time.specs.declared.Micros.{Micros}
 use Rattle.state.specs.Central.{Central}
-use Rattle.fit.specs.Facts.{Fit}
-use Rattle.turns.specs.World.{Held, World, onHeld}
-use Rattle.turns.specs.Ready.{Ready}
-use Rattle.waiting.specs.Waiting.{takeStep}
-use Rattle.starts.specs.Start.{startUnlinked, start}
-use Rattle.keeps.specs.Nearly.{Nearly}
-use Rattle.keeps.specs.Sound.{Sound, Whole}
-use Rattle.keeps.proofs.Waiting.{take-keeps, take-fit}
-use Rattle.script.specs.Script.{canGo, stepOnce, stepUnlinked}
-use Rattle.script.proofs.AdvanceLaws.{goes-on, taken}
+use Rattle.state_rules.specs.Facts.{Fit}
+use Rattle.script_rules.specs.World.{Held, World, onHeld}
+use Rattle.script_rules.specs.Ready.{Ready}
+use Rattle.script_rules.specs.Waiting.{takeStep}
+use Rattle.script_rules.specs.Start.{startUnlinked, start}
+use Rattle.script_rules.specs.Nearly.{Nearly}
+use Rattle.script_rules.specs.Sound.{Sound, Whole}
+use Rattle.script_rules.proofs.KeepWaiting.{take-keeps, take-fit}
+use Rattle.script_rules.specs.Script.{canGo, stepOnce, stepUnlinked}
+use Rattle.script_rules.proofs.AdvanceLaws.{goes-on, taken}
 
 pub may-take : (c : Central) → Nearly c → canGo c ≡ true
     → (0 < c .queue .count) × (c .queue .count ≤ mostSteps) × (c .counters .«next_index» < 4294967295)

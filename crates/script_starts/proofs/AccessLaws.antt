@@ -4,28 +4,28 @@ use mathlib.Core.Path.{_≡_, ap, ap₂, _∙_}
 use mathlib.Core.Bool.{Bool, true, false}
 use mathlib.Core.List.{List}
 use borrow.Author.Tests.{lt-ltb, le-ltb}
-use Rattle.places.specs.Sizes.{runningAt}
+use Rattle.state_places.specs.Sizes.{runningAt}
 use Rattle.time.specs.declared.Micros.{Micros}
-use Rattle.wire.specs.Numbers.{cidAtt}
-use Rattle.wire.specs.Frame.{attPdu}
+use Rattle.l2cap.specs.Numbers.{cidAtt}
+use Rattle.l2cap.specs.Frame.{attPdu}
 use Rattle.att_pdu.specs.Numbers.{opWriteReq, opWriteCmd}
 use Rattle.att_pdu.specs.Pdu.{exchangeMtuReq}
-use Rattle.characteristics.specs.declared.Characteristic.{Characteristic}
-use Rattle.characteristics.specs.declared.Which.the-variants.{At}
+use Rattle.gatt_characteristics.specs.declared.Characteristic.{Characteristic}
+use Rattle.gatt_characteristics.specs.declared.Which.the-variants.{At}
 use Rattle.state.specs.declared.Sent.{Sent}
 use Rattle.state.specs.declared.StepStatus.the-variants.{Ok, TooLong}
-use Rattle.fit.specs.Steps.{leastMtu}
-use Rattle.turns.specs.World.{Held, Told, World, told, onHeld}
-use Rattle.turns.specs.Send.{send, asked, request}
-use Rattle.starts.specs.Start.{ends, commanded, write}
+use Rattle.state_rules.specs.Steps.{defaultMtu}
+use Rattle.script_rules.specs.World.{Held, Told, World, told, onHeld}
+use Rattle.script_rules.specs.Send.{send, asked, request}
+use Rattle.script_rules.specs.Start.{ends, commanded, write}
 use Rattle.state_core.specs.declared.Core.{Core}
 use Rattle.state_core.specs.declared.Turn.{Turn}
 use Rattle.state_core.specs.Reading.{central, held, world}
 use Rattle.script_turns.proofs.TurnLaws.{request-law}
 
-pub mtu-law : (t r : Turn) (out out' : List ℕ) (at : Micros) (mtu m : ℕ) (pdu : List ℕ) → m ≡ max mtu leastMtu → pdu ≡ exchangeMtuReq m
+pub mtu-law : (t r : Turn) (out out' : List ℕ) (at : Micros) (mtu m : ℕ) (pdu : List ℕ) → m ≡ max mtu defaultMtu → pdu ≡ exchangeMtuReq m
     → ((w s : List ℕ) → world r w s out' ≡ request (world t w s out) at pdu)
-    → (w s : List ℕ) → world r w s out' ≡ request (world t w s out) at (exchangeMtuReq (max mtu leastMtu))
+    → (w s : List ℕ) → world r w s out' ≡ request (world t w s out) at (exchangeMtuReq (max mtu defaultMtu))
 mtu-law t r out out' at mtu m pdu e f g w s = g w s ∙ ap (λ (p : List ℕ). request (world t w s out) at p) (f ∙ ap exchangeMtuReq e)
 
 -- ---- a value is written

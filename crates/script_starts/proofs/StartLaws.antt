@@ -6,26 +6,26 @@ use mathlib.Core.List.{List, []}
 use native.Mathlib.Omega.{arith}
 use lib.Dec.{leb}
 use borrow.Author.Tests.{leb-true}
-use Rattle.base.specs.Choice.{pick}
-use Rattle.places.specs.Sizes.{valueSize}
+use Rattle.bytes.specs.Choice.{pick}
+use Rattle.state_places.specs.Sizes.{valueSize}
 use Rattle.time.specs.declared.Micros.{Micros}
 use Rattle.time.specs.declared.Millis.{Millis}
-use Rattle.services.specs.declared.Service.{Service}
-use Rattle.services.specs.declared.Which.{Which}
-use Rattle.services.specs.declared.Which.the-variants.{At, Nothing}
+use Rattle.gatt_services.specs.declared.Service.{Service}
+use Rattle.gatt_services.specs.declared.Which.{Which}
+use Rattle.gatt_services.specs.declared.Which.the-variants.{At, Nothing}
 use Rattle.state.specs.Central.{Central}
 use Rattle.state.specs.declared.Bearer.{Bearer}
 use Rattle.state.specs.declared.StepStatus.the-variants.{Ok, NotConnected}
-use Rattle.fit.specs.Facts.{Fit}
-use Rattle.fit.specs.FitLaws.{both}
-use Rattle.fit.specs.Steps.{implies, carries, mtuNamed, mostMtu, stepFits}
-use Rattle.turns.specs.World.{Held, World, told, onHeld}
-use Rattle.turns.specs.Finish.{withLink}
-use Rattle.discovery.specs.Discovery.{discoverServices, discoverCharacteristics}
-use Rattle.starts.specs.declared.Alone.{Alone}
-use Rattle.starts.specs.declared.Alone.the-variants as alone
-use Rattle.starts.specs.Wait.{Looks, checkWait}
-use Rattle.starts.specs.Start.{ends, waitsFor, unlinkedStep, startAlone, startUnlinked, discoverIn, terminated, asksTo, disconnect, carried, startLinked, start}
+use Rattle.state_rules.specs.Facts.{Fit}
+use Rattle.state_rules.proofs.FitLaws.{both}
+use Rattle.state_rules.specs.Steps.{implies, carries, mtuNamed, mostMtu, stepFits}
+use Rattle.script_rules.specs.World.{Held, World, told, onHeld}
+use Rattle.script_rules.specs.Finish.{withLink}
+use Rattle.script_rules.specs.Discovery.{discoverServices, discoverCharacteristics}
+use Rattle.script_rules.specs.declared.Alone.{Alone}
+use Rattle.script_rules.specs.declared.Alone.the-variants as alone
+use Rattle.script_rules.specs.Wait.{Looks, checkWait}
+use Rattle.script_rules.specs.Start.{ends, waitsFor, unlinkedStep, startAlone, startUnlinked, discoverIn, terminated, asksTo, disconnect, carried, startLinked, start}
 use Rattle.state_core.specs.declared.Core.{Core}
 use Rattle.state_core.specs.declared.Turn.{Turn}
 use Rattle.state_core.specs.Reading.{central, held, world, withBearer}

@@ -3,22 +3,22 @@ ghost use mathlib.Core.Path.{_≡_};
 ghost use mathlib.Core.List.{List};
 ghost use Prim.Native.Nat.{ℕ, _+_, _≤_, max};
 ghost use lib.ListN.{length, take};
-ghost use Rattle.places.specs.Sizes.{valueSize, runningAt};
-ghost use Rattle.wire.specs.Frame.{attPdu};
+ghost use Rattle.state_places.specs.Sizes.{valueSize, runningAt};
+ghost use Rattle.l2cap.specs.Frame.{attPdu};
 ghost use Rattle.att_pdu.specs.Numbers.{opWriteReq};
-ghost use Rattle.fit.specs.Facts.{Fit};
-ghost use Rattle.fit.specs.Steps.{leastMtu};
+ghost use Rattle.state_rules.specs.Facts.{Fit};
+ghost use Rattle.state_rules.specs.Steps.{defaultMtu};
 ghost use Rattle.att_pdu.specs.Pdu.{exchangeMtuReq, writeReq};
-ghost use Rattle.characteristics.specs.declared.Which.the-variants.{At};
-ghost use Rattle.characteristics.specs.Characteristic.{characteristicWith};
-ghost use Rattle.turns.specs.Ready.{Ready};
-ghost use Rattle.turns.specs.Send.{Room, request};
-ghost use Rattle.starts.specs.Start.{configuration, subscribeAt, subscribe, commanded, write, read};
+ghost use Rattle.gatt_characteristics.specs.declared.Which.the-variants.{At};
+ghost use Rattle.gatt_characteristics.specs.Characteristic.{characteristicWith};
+ghost use Rattle.script_rules.specs.Ready.{Ready};
+ghost use Rattle.script_rules.specs.Send.{Room, request};
+ghost use Rattle.script_rules.specs.Start.{configuration, subscribeAt, subscribe, commanded, write, read};
 ghost use Rattle.words.specs.Tables.{characteristicsIn};
 ghost use Rattle.state_core.specs.Reading.{central, world};
-use characteristics::Cccd;
-use characteristics::Characteristic;
-use characteristics::Which;
+use gatt_characteristics::Cccd;
+use gatt_characteristics::Characteristic;
+use gatt_characteristics::Which;
 use state::StepStatus;
 use state_core::Turn;
 use time::Micros;
@@ -29,14 +29,11 @@ const NOTIFY: u8 = 0x01;
 
 const INDICATE: u8 = 0x02;
 
-// The opcode and the handle in front of a value that is written.
-const WRITE_HEAD: usize = 3;
-
 fn at_least(mtu: u16) -> u16
-    ensures { λ r. ⌜ r ≡ max mtu leastMtu ⌝ }
+    ensures { λ r. ⌜ r ≡ max mtu defaultMtu ⌝ }
 {
-    if mtu < fit::MIN_MTU {
-        fit::MIN_MTU
+    if mtu < att_pdu::DEFAULT_MTU {
+        att_pdu::DEFAULT_MTU
     } else {
         mtu
     }
@@ -44,7 +41,7 @@ fn at_least(mtu: u16) -> u16
 
 pub fn start_mtu(t: Turn, out: &mut [u8], at: Micros, mtu: u16) -> Turn
     requires { ⌜ Room (t .sent) (length (now out)) 7 ⌝ }
-    ensures { λ r. ⌜ ((w s : List ℕ) → world r w s (now (out .exit)) ≡ request (world t w s (now (out .entry))) at (exchangeMtuReq (max mtu leastMtu))) ⌝ }
+    ensures { λ r. ⌜ ((w s : List ℕ) → world r w s (now (out .exit)) ≡ request (world t w s (now (out .entry))) at (exchangeMtuReq (max mtu defaultMtu))) ⌝ }
 {
     let pdu = att_pdu::exchange_mtu_req(at_least(mtu));
     script_turns::request(t, out, at, &pdu)
@@ -57,16 +54,16 @@ fn configure(handle: u16, indicate: bool) -> [u8; 5]
     if indicate {
         [
             att_pdu::op::WRITE_REQ,
-            halves::lo(handle),
-            halves::hi(handle),
+            bytes_halves::lo(handle),
+            bytes_halves::hi(handle),
             INDICATE,
             0,
         ]
     } else {
         [
             att_pdu::op::WRITE_REQ,
-            halves::lo(handle),
-            halves::hi(handle),
+            bytes_halves::lo(handle),
+            bytes_halves::hi(handle),
             NOTIFY,
             0,
         ]
@@ -138,13 +135,13 @@ fn write_command(
 {
     let core = t.core;
     let sent = t.sent;
-    let told = turns::send_value(
+    let told = script_sends::send_value(
         sent,
         out,
         att_pdu::op::WRITE_CMD,
         handle,
         store,
-        places::RUNNING_AT,
+        state_places::RUNNING_AT,
         n,
     );
     let next = script_turns::end(core, tables, store, at, StepStatus::Ok);
@@ -163,13 +160,13 @@ fn write_request(t: Turn, store: &[u8], out: &mut [u8], at: Micros, handle: u16,
 {
     let core = t.core;
     let sent = t.sent;
-    let told = turns::send_value(
+    let told = script_sends::send_value(
         sent,
         out,
         att_pdu::op::WRITE_REQ,
         handle,
         store,
-        places::RUNNING_AT,
+        state_places::RUNNING_AT,
         n,
     );
     let next = script_turns::asked(core, at, att_pdu::op::WRITE_REQ);
@@ -200,7 +197,7 @@ fn write_to(
     let link = bearer.link;
     let n = running.len as usize;
     let mtu = link.mtu as usize;
-    let size = n + WRITE_HEAD;
+    let size = n + l2cap::ATT_HEAD;
     if mtu < size {
         return script_turns::end_turn(t, tables, store, at, StepStatus::TooLong);
     }

@@ -1,11 +1,11 @@
 -- What each return asks, from what the callees ensure.
 use Prim.Native.Nat.{ℕ}
-use mathlib.Core.Path.{_≡_, sym, ap, _∙_}
+use mathlib.Core.Path.{_≡_, ap, _∙_}
 use mathlib.Core.Bool.{true, false}
 use mathlib.Core.List.{List}
 use lib.ListN.{getD}
-use Rattle.queues.specs.Blocks.{stored}
-use Rattle.wire.specs.Numbers.{cidAtt}
+use Rattle.lists.specs.Blocks.{stored}
+use Rattle.l2cap.specs.Numbers.{cidAtt}
 use Rattle.time.specs.declared.Micros.{Micros}
 use Rattle.time.specs.declared.Millis.{Millis}
 use Rattle.time.specs.Clock.{deadline, attDeadline}
@@ -16,10 +16,10 @@ use Rattle.state.specs.declared.Counts.{Counts}
 use Rattle.state.specs.declared.Sent.{Sent}
 use Rattle.state.specs.declared.StepResult.{StepResult}
 use Rattle.state.specs.declared.StepStatus.{StepStatus}
-use Rattle.turns.specs.World.{Held, Told, World, onHeld, onState}
-use Rattle.turns.specs.Finish.{resultPart, pushedResult, idle, answered, withLink, ended, finish}
-use Rattle.turns.specs.Send.{until, awaiting, send, asked, request}
-use Rattle.starts.specs.Start.{waitsFor}
+use Rattle.script_rules.specs.World.{Held, Told, onHeld}
+use Rattle.script_rules.specs.Finish.{resultPart, pushedResult, idle, answered, withLink, ended, finish}
+use Rattle.script_rules.specs.Send.{until, awaiting, send, asked, request}
+use Rattle.script_rules.specs.Start.{waitsFor}
 use Rattle.words.specs.Tables.{Tables, tables, withResults}
 use Rattle.words_result.specs.Results.{resultsAs}
 use Rattle.state_core.specs.declared.Core.{Core}

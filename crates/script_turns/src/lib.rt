@@ -3,12 +3,12 @@ ghost use mathlib.Core.Path.{_≡_};
 ghost use mathlib.Core.List.{List};
 ghost use Prim.Native.Nat.{ℕ, _+_, _≤_, _<_};
 ghost use lib.ListN.{length};
-ghost use Rattle.queues.specs.Blocks.{stored};
-ghost use Rattle.places.specs.Sizes.{heldAt, storeSize, resultSize, mostResults};
-ghost use Rattle.turns.specs.World.{onHeld};
-ghost use Rattle.turns.specs.Finish.{resultPart, finish};
-ghost use Rattle.turns.specs.Send.{Room, until, asked, request};
-ghost use Rattle.starts.specs.Start.{ends, waitsFor};
+ghost use Rattle.lists.specs.Blocks.{stored};
+ghost use Rattle.state_places.specs.Sizes.{heldAt, storeSize, resultSize, mostResults};
+ghost use Rattle.script_rules.specs.World.{onHeld};
+ghost use Rattle.script_rules.specs.Finish.{resultPart, finish};
+ghost use Rattle.script_rules.specs.Send.{Room, until, asked, request};
+ghost use Rattle.script_rules.specs.Start.{ends, waitsFor};
 ghost use Rattle.state_core.specs.Reading.{central, held, world};
 use state::Running;
 use state::StepResult;
@@ -19,7 +19,7 @@ use time::Micros;
 use time::Millis;
 
 // The bytes of all results but the oldest.
-const NEWER_RESULTS: usize = places::MAX_RESULT_VALUE * 63;
+const NEWER_RESULTS: usize = state_places::MAX_RESULT_VALUE * 63;
 
 // ---- a step ends
 
@@ -28,17 +28,17 @@ fn keep_value(store: &mut [u8], count: usize, from: usize, n: usize)
     requires { ⌜ (length (now store) ≡ storeSize) × (count ≤ mostResults) × (n ≤ resultSize) × (heldAt ≤ from) × (from + n ≤ storeSize) ⌝ }
     ensures { λ _. ⌜ now (store .exit) ≡ stored resultPart count (now (store .entry)) from n (now (store .entry)) ⌝ }
 {
-    if count < places::MAX_RESULTS {
-        let at = places::result_at(count);
-        copies::copy_within(store, at, from, n);
+    if count < state_places::MAX_RESULTS {
+        let at = state_places::result_at(count);
+        bytes_copies::copy_within(store, at, from, n);
     } else {
-        copies::copy_within(
+        bytes_copies::copy_within(
             store,
-            places::result_at(0),
-            places::result_at(1),
+            state_places::result_at(0),
+            state_places::result_at(1),
             NEWER_RESULTS,
         );
-        copies::copy_within(store, places::result_at(63), from, n);
+        bytes_copies::copy_within(store, state_places::result_at(63), from, n);
     }
 }
 
@@ -92,7 +92,7 @@ pub fn end(
     requires { ⌜ (length (now store) ≡ storeSize) × (c .counts .results ≤ mostResults) ⌝ }
     ensures { λ r. ⌜ held r (now (tables .exit)) (now (store .exit)) ≡ ends (held c (now (tables .entry)) (now (store .entry))) at status ⌝ }
 {
-    finish(c, tables, store, at, status, places::HELD_AT, 0)
+    finish(c, tables, store, at, status, state_places::HELD_AT, 0)
 }
 
 // The same of a turn, with a value.
@@ -125,7 +125,7 @@ pub fn end_turn(
     requires { ⌜ (length (now store) ≡ storeSize) × (t .core .counts .results ≤ mostResults) ⌝ }
     ensures { λ r. ⌜ ((o : List ℕ) → world r (now (tables .exit)) (now (store .exit)) o ≡ onHeld (world t (now (tables .entry)) (now (store .entry)) o) (ends (held (t .core) (now (tables .entry)) (now (store .entry))) at status)) ⌝ }
 {
-    finish_turn(t, tables, store, at, status, places::HELD_AT, 0)
+    finish_turn(t, tables, store, at, status, state_places::HELD_AT, 0)
 }
 
 // ---- a step runs
@@ -182,7 +182,7 @@ pub fn request(t: Turn, out: &mut [u8], at: Micros, pdu: &[u8]) -> Turn
     let core = t.core;
     let sent = t.sent;
     let opcode = pdu[0];
-    let told = turns::send(sent, out, wire::cid::ATT, pdu);
+    let told = script_sends::send(sent, out, l2cap::cid::ATT, pdu);
     let next = asked(core, at, opcode);
     Turn {
         core: next,

@@ -4,24 +4,24 @@ use mathlib.Core.Path.{_≡_, sym, ap, _∙_}
 use mathlib.Core.Bool.{Bool, true, false}
 use mathlib.Core.List.{List}
 use lib.ListN.{drop, take}
-use Rattle.base.specs.Choice.{pick}
-use Rattle.queues.specs.Blocks.{bytes}
-use Rattle.places.specs.Sizes.{runningAt}
+use Rattle.bytes.specs.Choice.{pick}
+use Rattle.lists.specs.Blocks.{bytes}
+use Rattle.state_places.specs.Sizes.{runningAt}
 use Rattle.time.specs.declared.Micros.{Micros}
 use Rattle.uuid.specs.declared.Uuid.{Uuid}
-use Rattle.waits.specs.Kept.{heard, skippedOf}
-use Rattle.waits.specs.Wait.{passes}
-use Rattle.characteristics.specs.Characteristic.{characteristicWith}
-use Rattle.characteristics.specs.declared.Characteristic.{Characteristic}
-use Rattle.characteristics.specs.declared.Which.{Which}
-use Rattle.characteristics.specs.declared.Which.the-variants.{At, Nothing}
+use Rattle.notifications.specs.Kept.{heard, skippedOf}
+use Rattle.notifications.specs.Wait.{passes}
+use Rattle.gatt_characteristics.specs.Characteristic.{characteristicWith}
+use Rattle.gatt_characteristics.specs.declared.Characteristic.{Characteristic}
+use Rattle.gatt_characteristics.specs.declared.Which.{Which}
+use Rattle.gatt_characteristics.specs.declared.Which.the-variants.{At, Nothing}
 use Rattle.state.specs.declared.Counters.{Counters}
 use Rattle.state.specs.declared.StepStatus.the-variants.{Ok, NotFound}
-use Rattle.turns.specs.World.{Held}
-use Rattle.starts.specs.declared.Awaited.{Awaited}
-use Rattle.starts.specs.declared.Awaited.the-variants as awaited-variants
-use Rattle.starts.specs.Wait.{waitPasses, passed, checkOne, awaited, checkFor, checkWait}
-use Rattle.starts.specs.Start.{ends}
+use Rattle.script_rules.specs.World.{Held}
+use Rattle.script_rules.specs.declared.Awaited.{Awaited}
+use Rattle.script_rules.specs.declared.Awaited.the-variants as awaited-variants
+use Rattle.script_rules.specs.Wait.{waitPasses, passed, checkOne, awaited, checkFor, checkWait}
+use Rattle.script_rules.specs.Start.{ends}
 use Rattle.words.specs.Tables.{characteristicsIn, notificationsIn}
 use Rattle.state_core.specs.declared.Core.{Core}
 use Rattle.state_core.specs.Reading.{held, withCounters}

@@ -1,11 +1,11 @@
 // The wait check: what a WaitNotification looks at, when it starts and at each notification.
 ghost use mathlib.Core.Path.{_≡_};
 ghost use lib.ListN.{length};
-ghost use Rattle.places.specs.Sizes.{storeSize};
-ghost use Rattle.starts.specs.Wait.{Looks, waitPasses, passed, checkOne, awaited, checkWait};
+ghost use Rattle.state_places.specs.Sizes.{storeSize};
+ghost use Rattle.script_rules.specs.Wait.{Looks, waitPasses, passed, checkOne, awaited, checkWait};
 ghost use Rattle.state_core.specs.Reading.{central, held};
-use characteristics::Which;
-use starts::Awaited;
+use gatt_characteristics::Which;
+use script_rules::Awaited;
 use state::Counters;
 use state::Step;
 use state::StepStatus;
@@ -30,9 +30,17 @@ fn wait_passes(c: Core, tables: &[u64; 1056], store: &[u8], handle: u16) -> bool
     let running = c.running;
     let counts = c.counts;
     let kept = counts.notifications;
-    let skip = waits::skipped(counters.notified, kept, counters.wait_from);
+    let skip = notifications::skipped(counters.notified, kept, counters.wait_from);
     let len = running.len as usize;
-    words_notification::wait_passes(tables, kept, skip, handle, store, places::RUNNING_AT, len)
+    words_notification::wait_passes(
+        tables,
+        kept,
+        skip,
+        handle,
+        store,
+        state_places::RUNNING_AT,
+        len,
+    )
 }
 
 // By the characteristic that the step names.

@@ -1,9 +1,9 @@
 -- The state before the first call: nothing queued, running, kept, heard or linked, and all counters 0. What no count reaches is zero.
 use mathlib.Core.Bool.{false}
 use lib.ListN.{replicate}
-use Rattle.services.specs.Service.{zero-service}
-use Rattle.characteristics.specs.Characteristic.{zero-characteristic}
-use Rattle.waits.specs.declared.Notification.{Notification}
+use Rattle.gatt_services.specs.Service.{zero-service}
+use Rattle.gatt_characteristics.specs.Characteristic.{zero-characteristic}
+use Rattle.notifications.specs.declared.Notification.{Notification}
 use Rattle.state.specs.Central.{Central}
 use Rattle.state.specs.declared.Queued.{Queued}
 use Rattle.state.specs.declared.StepResult.{StepResult}
@@ -33,7 +33,7 @@ freshCentral =
       results = record { kept = replicate 64 noResult; count = 0 };
       reports = record {
         who = replicate 64 0;
-        heard = record { at = replicate 64 0; channel = replicate 64 0; pdu = replicate 64 0; len = replicate 64 0; response = replicate 64 0 };
+        heard = record { at = replicate 64 (record { 0 = 0 }); channel = replicate 64 0; pdu = replicate 64 0; len = replicate 64 0; response = replicate 64 0 };
         count = 0;
       };
       bearer = record { held = 0; link = record { handle = 0; mtu = 0; pending = 0; terminating = false }; present = false };

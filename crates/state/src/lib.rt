@@ -1,16 +1,7 @@
-// The state of a central: its parts, which functions and definitions speak of, and how they lie in `State`.
-use characteristics::Characteristic;
-use characteristics::Characteristics;
-use services::Service;
-use services::Services;
+// The parts of a central's state, which functions and definitions speak of. How they lie in words: crate words.
 use time::Micros;
 use time::Millis;
 use uuid::Uuid;
-use waits::Notification;
-use waits::Notifications;
-
-pub mod fresh;
-pub mod parts;
 
 // A device address as a number, low + 2^32 * high, and its type.
 pub struct Address {
@@ -145,7 +136,7 @@ pub struct Counters {
 
 // What was heard of each advertiser, a place of each array for one: a response of 32 bytes is none.
 pub struct Heard {
-    pub at: [u64; 64],
+    pub at: [Micros; 64],
     pub channel: [u8; 64],
     pub pdu: [u8; 64],
     pub len: [u8; 64],
@@ -173,24 +164,6 @@ pub struct Counts {
     pub notifications: usize,
 }
 
-// The layout: arrays apart from their counts, since a call that needs no table then copies none.
-pub struct State {
-    pub waiting: [Queued; 64],
-    pub results: [StepResult; 64],
-    pub services: [Service; 32],
-    pub characteristics: [Characteristic; 64],
-    pub notifications: [Notification; 32],
-    pub counts: Counts,
-    pub counters: Counters,
-    pub bearer: Bearer,
-    pub running: Running,
-    pub who: [u64; 64],
-    pub reports: usize,
-    pub heard: Heard,
-    pub key_count: usize,
-    pub keys: [u64; 128],
-}
-
 // At most one in a call.
 pub enum LinkRequest {
     Nothing,
@@ -209,10 +182,4 @@ pub struct Sent {
     pub frames: usize,
     pub bytes: usize,
     pub request: LinkRequest,
-}
-
-// A call's work: the state as it stands, and what was sent on the way.
-pub struct Turn {
-    pub state: State,
-    pub sent: Sent,
 }

@@ -6,7 +6,7 @@ use Rattle.state.specs.declared.Running.{Running}
 use Rattle.state.specs.declared.Bearer.{Bearer}
 use Rattle.state.specs.declared.Counters.{Counters}
 use Rattle.state.specs.declared.Counts.{Counts}
-use Rattle.turns.specs.World.{Held, World}
+use Rattle.script_rules.specs.World.{Held, World}
 use Rattle.words.specs.Tables.{Tables, tables}
 use Rattle.state_core.specs.declared.Core.{Core}
 use Rattle.state_core.specs.declared.Turn.{Turn}

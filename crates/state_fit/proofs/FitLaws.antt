@@ -1,32 +1,30 @@
--- The tests of the tables, joined, are fit; lengths of reports that are read from words fit by themselves.
+-- The tests of the core and of the tables, joined, are fit; lengths of reports that are read from words fit by themselves.
 use Prim.Native.Nat.{ℕ, zero, suc, _≤_, _<_, _%_, _/_}
-use mathlib.Core.Path.{_≡_, refl, sym, ap, _∙_}
-use mathlib.Core.Bool.{Bool, true, false, _&&_}
+use mathlib.Core.Path.{_≡_, refl, sym, _∙_}
+use mathlib.Core.Bool.{Bool, true, false, not, _&&_}
 use mathlib.Core.List.{List, [], _∷_}
 use native.Mathlib.Omega.{arith}
 use lib.ListN.{take}
 use lib.Dec.{leb}
-use borrow.Author.Tests.{le-leb}
-use Rattle.base.specs.Choice.{pick}
-use Rattle.queues.specs.Queue.{all}
-use Rattle.characteristics.specs.Characteristic.{rises}
-use Rattle.waits.specs.Kept.{valuesFit}
-use Rattle.fit.specs.Fit.{resultsFit, stepsFit, lengthsFit, fits}
-use Rattle.fit.specs.Facts.{Fit}
-use Rattle.fit.specs.Parts.{headFits}
-use Rattle.fit.specs.FitLaws.{head-of, of-head, of-fit, unfit}
+use borrow.Author.Tests.{le-leb, not-true, not-false}
+use Rattle.bytes.specs.Choice.{pick}
+use Rattle.lists.specs.Queue.{all}
+use Rattle.state_places.specs.Sizes.{mostSteps, mostResults, mostCharacteristics, mostNotifications}
+use Rattle.gatt_characteristics.specs.Characteristic.{rises}
+use Rattle.notifications.specs.Kept.{valuesFit}
+use Rattle.state_rules.specs.Fit.{resultsFit, stepsFit, lengthsFit, fits}
+use Rattle.state_rules.specs.Gate.{firstRefusal}
+use Rattle.state_rules.proofs.FitLaws.{head-of, of-head, of-fit, unfit}
 use Rattle.words.specs.Table.{tableFrom}
 use Rattle.words.specs.Words.{bitAt, dataLenOf, responseOf}
 use Rattle.words.specs.Tables.{word, stepsIn, resultsIn, characteristicsIn, notificationsIn, heardIn}
 use Rattle.state_core.specs.declared.Core.{Core}
 use Rattle.state_core.specs.Reading.{central}
+use Rattle.state_fit.specs.Parts.{coreFits, tablesFit}
 
-abbrev pub headIn : Core → Bool
-headIn c = headFits (c .counts) (c .counters) (c .bearer) (c .running) (c .reports) (c .«key_count»)
-
-pub unfit-head : (c : Core) (w : List ℕ) → headIn c ≡ false → false ≡ fits (central c w)
-unfit-head c w e =
-    sym (unfit (central c w) (headIn c) (λ f. of-head (c .counts) (c .counters) (c .bearer) (c .running) (c .reports) (c .«key_count») (f .head)) e)
+unfit-core : (c : Core) (w : List ℕ) → coreFits c ≡ false → false ≡ fits (central c w)
+unfit-core c w e =
+    sym (unfit (central c w) (coreFits c) (λ f. of-head (c .counts) (c .counters) (c .bearer) (c .running) (c .reports) (c .«key_count») (f .head)) e)
 
 -- each place of a table passes where every word does
 from-all : {A : Type 0} (t : A → Bool) (g : ℕ → A) (i n k : ℕ) → ((j : ℕ) → t (g j) ≡ true) → all t (take k (tableFrom i n g)) ≡ true
@@ -54,8 +52,8 @@ responses-fit : (w : List ℕ) (n : ℕ) → lengthsFit 32 (take n (heardIn w .r
 unfolding heardIn
 responses-fit w n = from-all (λ k. leb k 32) (λ i. responseOf (word w 864 i)) 0 64 n (λ j. short-response (word w 864 j))
 
-module _ (c : Core) (w : List ℕ) (h : headIn c ≡ true) where
-  pub fit-words : (s r x v : Bool) → s ≡ stepsFit (take (c .counts .waiting) (stepsIn w)) → r ≡ resultsFit (take (c .counts .results) (resultsIn w))
+module _ (c : Core) (w : List ℕ) (h : coreFits c ≡ true) where
+  fit-words : (s r x v : Bool) → s ≡ stepsFit (take (c .counts .waiting) (stepsIn w)) → r ≡ resultsFit (take (c .counts .results) (resultsIn w))
       → x ≡ rises (take (c .counts .characteristics) (characteristicsIn w)) → v ≡ valuesFit (take (c .counts .notifications) (notificationsIn w))
       → (((s && r) && x) && v) ≡ fits (central c w)
   fit-words true true true true e₁ e₂ e₃ e₄ =
@@ -73,3 +71,24 @@ module _ (c : Core) (w : List ℕ) (h : headIn c ≡ true) where
   fit-words true false x v e₁ e₂ e₃ e₄ = sym (unfit (central c w) (resultsFit (take (c .counts .results) (resultsIn w))) (λ f. f .results) (sym e₂))
   fit-words true true false v e₁ e₂ e₃ e₄ = sym (unfit (central c w) (rises (take (c .counts .characteristics) (characteristicsIn w))) (λ f. f .rising) (sym e₃))
   fit-words true true true false e₁ e₂ e₃ e₄ = sym (unfit (central c w) (valuesFit (take (c .counts .notifications) (notificationsIn w))) (λ f. f .values) (sym e₄))
+
+-- ---- what the gates ask: x is what the core's test said
+
+-- of a core that is not fit
+pub refused-core : (c : Core) (w : List ℕ) (x sized timely : Bool) → x ≡ coreFits c → not x ≡ true → _≡_ {A = ℕ} 1 (firstRefusal (fits (central c w)) sized timely)
+unfolding firstRefusal
+refused-core c w x sized timely e h = rw (← unfit-core c w (sym e ∙ not-true x h)) refl
+
+module _ (c : Core) (x : Bool) (e : x ≡ coreFits c) (h : not x ≡ false) where
+  fit-core : coreFits c ≡ true
+  fit-core = sym e ∙ not-false x h
+
+  pub counts-fit : (c .counts .waiting ≤ mostSteps) × (c .counts .results ≤ mostResults)
+      × (c .counts .characteristics ≤ mostCharacteristics) × (c .counts .notifications ≤ mostNotifications)
+  counts-fit =
+      let f = head-of (c .counts) (c .counters) (c .bearer) (c .running) (c .reports) (c .«key_count») fit-core in
+      (f .waiting, f .results, f .characteristics, f .notifications)
+
+  pub all-fit : (w : List ℕ) (f : Bool)
+      → f ≡ tablesFit w (c .counts .waiting) (c .counts .results) (c .counts .characteristics) (c .counts .notifications) → f ≡ fits (central c w)
+  all-fit w f g = g ∙ fit-words c w fit-core _ _ _ _ refl refl refl refl

@@ -1,18 +1,41 @@
-// The calls that only read a state in numbers.
+// The calls that only read a core and its tables.
 ghost use mathlib.Core.Path.{_≡_};
 ghost use Prim.Native.Nat.{_≤_};
 ghost use lib.ListN.{length, take};
-ghost use Rattle.places.specs.Sizes.{mostResults};
-ghost use Rattle.readers.specs.Readers.{timerOf, timer, handleOf, handle, given, result};
+ghost use Rattle.state_places.specs.Sizes.{mostResults};
+ghost use Rattle.state_readers.specs.Readers.{timerOf, timer, handleOf, handle, given, result};
 ghost use Rattle.words.specs.Tables.{resultsIn};
 ghost use Rattle.state_core.specs.Reading.{central};
-use readers::Given;
-use readers::Handle;
-use readers::Timer;
-use refusals::refusal;
 use state::Bearer;
 use state::Running;
+use state::StepStatus;
 use state_core::Core;
+use state_refusals::refusal;
+use time::Micros;
+
+pub enum Timer {
+    Refused(u8),
+    Never,
+    At(Micros),
+}
+
+pub enum Handle {
+    Refused(u8),
+    Absent,
+    Is(u16),
+}
+
+// A result's value is the len bytes of the store from place on.
+pub enum Given {
+    Refused(u8),
+    Nothing,
+    Is {
+        at: Micros,
+        status: StepStatus,
+        place: usize,
+        len: usize,
+    },
+}
 
 fn timer_of(r: Running) -> Timer
     ensures { λ x. ⌜ x ≡ timerOf r ⌝ }
@@ -75,7 +98,7 @@ fn find(tables: &[u64; 1056], count: usize, index: u32) -> Given
         if x.index == index {
             let at = x.at;
             let status = x.status;
-            let place = places::result_at(i);
+            let place = state_places::result_at(i);
             let len = wide(x.len);
             return Given::Is {
                 at,

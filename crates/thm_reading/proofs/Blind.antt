@@ -1,8 +1,8 @@
 -- Work that is blind to dead places: done on a state, or on its live entries alone, it leaves the same live entries.
 use mathlib.Core.Path.{_≡_, refl, sym, ap, _∙_}
 use mathlib.Core.Bool.{Bool, true, false}
-use Rattle.base.specs.Choice.{pick}
-use Rattle.turns.specs.World.{Held, World}
+use Rattle.bytes.specs.Choice.{pick}
+use Rattle.script_rules.specs.World.{Held, World}
 use Rattle.thm_reading.specs.Live.{live}
 use Rattle.thm_reading.proofs.Tables.{live-twice}
 

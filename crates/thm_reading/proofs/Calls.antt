@@ -5,28 +5,28 @@ use mathlib.Core.Bool.{Bool, true, not, _&&_}
 use mathlib.Core.List.{List}
 use lib.ListN.{length}
 use lib.Dec.{eqb, leb}
-use Rattle.base.specs.Choice.{pick}
-use Rattle.places.specs.Sizes.{storeSize, outputSize}
+use Rattle.bytes.specs.Choice.{pick}
+use Rattle.state_places.specs.Sizes.{storeSize, outputSize}
 use Rattle.time.specs.declared.Micros.{Micros}
 use Rattle.time.specs.Clock.{tooLate}
 use Rattle.state.specs.Central.{Central}
-use Rattle.fit.specs.Fit.{mostNotified}
-use Rattle.fit.specs.Gate.{firstRefusal, gate, gateQuiet, gateReader, unless}
-use Rattle.fit.specs.Refusals.{accepted, badBatch, counterFull, longFrame}
-use Rattle.turns.specs.World.{Held, World, onHeld}
-use Rattle.waiting.specs.declared.Batch.{Batch}
-use Rattle.waiting.specs.Batch.{steps}
-use Rattle.waiting.specs.Waiting.{pushAll}
-use Rattle.script.specs.Script.{advance}
-use Rattle.calls.specs.Outcome.{Outcome, Quiet, unsent, begins, done, refused, quietly, quietlyRefused}
-use Rattle.batch.specs.Batch.{batchFits, countersFit, gateBatch, pushSteps}
-use Rattle.events.specs.Events.{expire, connect, lose, onTimer, onConnected, onDisconnected}
-use Rattle.fragments.specs.Fragment.{withHeld, heldFits, gateFragment, refusing}
-use Rattle.rules.specs.Link.{hear, onFragment}
-use Rattle.readers.specs.Readers.{timerOf, timer, handleOf, handle, given, result}
-use Rattle.readers.specs.declared.Timer.the-variants as timer-variants
-use Rattle.readers.specs.declared.Handle.the-variants as handle-variants
-use Rattle.readers.specs.declared.Given.the-variants as given-variants
+use Rattle.state_rules.specs.Fit.{mostNotified}
+use Rattle.state_rules.specs.Gate.{firstRefusal, gate, gateQuiet, gateReader, unless}
+use Rattle.state_rules.specs.Refusals.{accepted, badBatch, counterFull, longFrame}
+use Rattle.script_rules.specs.World.{Held, World, onHeld}
+use Rattle.script_rules.specs.declared.Batch.{Batch}
+use Rattle.script_rules.specs.BatchSteps.{steps}
+use Rattle.script_rules.specs.Waiting.{pushAll}
+use Rattle.script_rules.specs.Script.{advance}
+use Rattle.script_rules.specs.Outcome.{Outcome, Quiet, unsent, begins, done, refused, quietly, quietlyRefused}
+use Rattle.script_rules.specs.Batch.{batchFits, countersFit, gateBatch, pushSteps}
+use Rattle.script_rules.specs.Events.{expire, connect, lose, onTimer, onConnected, onDisconnected}
+use Rattle.link_rules.specs.Fragment.{withHeld, heldFits, gateFragment, refusing}
+use Rattle.link_rules.specs.Link.{hear, onFragment}
+use Rattle.state_readers.specs.Readers.{timerOf, timer, handleOf, handle, given, result}
+use Rattle.state_readers.specs.declared.Timer.the-variants as timer-variants
+use Rattle.state_readers.specs.declared.Handle.the-variants as handle-variants
+use Rattle.state_readers.specs.declared.Given.the-variants as given-variants
 use Rattle.thm_reading.specs.Live.{live}
 use Rattle.thm_reading.proofs.Tables.{cut-twice, live-twice}
 use Rattle.thm_reading.proofs.Blind.{cut, cutWorld, pick-if, pick-both}

@@ -1,12 +1,12 @@
 -- Dead places never matter.
 use mathlib.Core.Path.{_≡_, ap}
 use Rattle.state.specs.Central.{Central}
-use Rattle.calls.specs.Outcome.{Outcome, Quiet}
-use Rattle.batch.specs.Batch as batch
-use Rattle.events.specs.Events as events
-use Rattle.rules.specs.Link as link
-use Rattle.hearing.specs.Hearing as radio
-use Rattle.readers.specs.Readers as readers
+use Rattle.script_rules.specs.Outcome.{Outcome, Quiet}
+use Rattle.script_rules.specs.Batch as batch
+use Rattle.script_rules.specs.Events as events
+use Rattle.link_rules.specs.Link as link
+use Rattle.radio_rules.specs.Hearing as radio
+use Rattle.state_readers.specs.Readers as readers
 use Rattle.thm_reading.specs.Live.{live, Alike}
 use Rattle.thm_reading.specs.Same.{SameOutcome, SameQuiet, SameHeard}
 use Rattle.thm_reading.specs.Dead.{DeadPlacesNeverMatter}

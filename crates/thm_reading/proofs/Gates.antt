@@ -1,12 +1,12 @@
 -- Whether a state is fit does not depend on its dead places.
 use mathlib.Core.Path.{_≡_, sym}
 use mathlib.Core.Bool.{_&&_}
-use Rattle.places.specs.Sizes.{dataSize}
-use Rattle.waits.specs.Kept.{valuesFit}
-use Rattle.characteristics.specs.Characteristic.{rises}
+use Rattle.state_places.specs.Sizes.{dataSize}
+use Rattle.notifications.specs.Kept.{valuesFit}
+use Rattle.gatt_characteristics.specs.Characteristic.{rises}
 use Rattle.state.specs.Central.{Central}
-use Rattle.fit.specs.Fit.{noResponse, counted, countsFit, heldFits, resultsFit, lengthsFit, mtuFits, runningFits, stepsFit, phaseFits, pendingFits, idleFits, notifiedFits}
-use Rattle.fit.specs.Fit.{waitFits, refusedFits, indexFits, deadlineFits, fits}
+use Rattle.state_rules.specs.Fit.{noResponse, counted, countsFit, heldFits, resultsFit, lengthsFit, mtuFits, runningFits, stepsFit, phaseFits, pendingFits, idleFits, notifiedFits}
+use Rattle.state_rules.specs.Fit.{waitFits, refusedFits, indexFits, deadlineFits, fits}
 use Rattle.thm_reading.specs.Live.{live}
 use Rattle.thm_reading.proofs.Tables.{cut-twice}
 

@@ -6,17 +6,17 @@ use mathlib.Core.List.{List, [], _∷_, _++_}
 use lib.ListN.{length, drop}
 use lib.Seq.{getD-take}
 use lib.Dec.{ltb}
-use Rattle.base.specs.Choice.{pick}
-use Rattle.base.specs.Splice.{splice, moved}
-use Rattle.places.specs.Sizes.{mostSteps, valueSize, runningAt, waitingAt}
+use Rattle.bytes.specs.Choice.{pick}
+use Rattle.bytes.specs.Splice.{splice, moved}
+use Rattle.state_places.specs.Sizes.{mostSteps, valueSize, runningAt, waitingAt}
 use Rattle.state.specs.Central.{Central, withCounters, withQueue}
 use Rattle.state.specs.Fresh.{noQueued}
 use Rattle.state.specs.declared.Queue.{Queue}
 use Rattle.state.specs.declared.Queued.{Queued}
-use Rattle.turns.specs.World.{Held}
-use Rattle.waiting.specs.declared.Placed.{Placed}
-use Rattle.waiting.specs.Batch.{valueLen, queued}
-use Rattle.waiting.specs.Waiting.{waiting, queueing, refusing, pushOne, pushAll, begun, counted, takeStep}
+use Rattle.script_rules.specs.World.{Held}
+use Rattle.script_rules.specs.declared.Placed.{Placed}
+use Rattle.script_rules.specs.BatchSteps.{valueLen, queued}
+use Rattle.script_rules.specs.Waiting.{waiting, queueing, refusing, pushOne, pushAll, begun, counted, takeStep}
 use Rattle.thm_reading.specs.Live.{liveQueue}
 use Rattle.thm_reading.proofs.Tables.{cut-twice, results-twice, reports-twice, services-twice, characteristics-twice, notifications-twice, live-twice, queue-holds}
 use Rattle.thm_reading.proofs.Blind.{cut, held-twice}

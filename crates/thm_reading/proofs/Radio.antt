@@ -7,21 +7,21 @@ use native.Mathlib.Omega.{arith}
 use lib.ListN.{length}
 use lib.Dec.{eqb, ltb}
 use borrow.Author.Tests.{eqb-true, eqb-false, ltb-true}
-use Rattle.base.specs.Choice.{pick}
-use Rattle.places.specs.Sizes.{storeSize, mostKeys}
+use Rattle.bytes.specs.Choice.{pick}
+use Rattle.state_places.specs.Sizes.{storeSize, mostKeys}
 use Rattle.time.specs.declared.Micros.{Micros}
 use Rattle.time.specs.Clock.{tooLate}
 use Rattle.state.specs.Central.{Central, withReports, withKeys}
 use Rattle.state.specs.declared.Address.{Address}
 use Rattle.state.specs.declared.Reports.{Reports}
-use Rattle.fit.specs.Gate.{firstRefusal, gateQuiet}
-use Rattle.fit.specs.Refusals.{accepted, keysFull}
-use Rattle.reports.specs.Key.{key, among, seek}
-use Rattle.reports.specs.Reports.{placeOf, heardAgain, againStore, heardFirst, firstStore, lastPlace, responseStore, responseOf}
-use Rattle.matching.specs.Matching.{listens, asks, chosen}
-use Rattle.matching.specs.declared.AdvAction.the-variants as action
-use Rattle.hearing.specs.Hearing.{Outcome, unchanged, thenData, Adv, line, noKey, due, refusal, requested, weighed, acted, heard, advertised, responseRefusal, answered, scanResponded}
-use Rattle.hearing.specs.HearingLaws.{passed}
+use Rattle.state_rules.specs.Gate.{firstRefusal, gateQuiet}
+use Rattle.state_rules.specs.Refusals.{accepted, keysFull}
+use Rattle.adv_reports.specs.Key.{key, among, seek}
+use Rattle.adv_reports.specs.Reports.{placeOf, heardAgain, againStore, heardFirst, firstStore, lastPlace, responseStore, responseOf}
+use Rattle.radio_match.specs.Matching.{listens, asks, chosen}
+use Rattle.radio_match.specs.declared.AdvAction.the-variants as action
+use Rattle.radio_rules.specs.Hearing.{Outcome, unchanged, thenData, Adv, line, noKey, due, refusal, requested, weighed, acted, heard, advertised, responseRefusal, answered, scanResponded}
+use Rattle.radio_rules.proofs.HearingLaws.{passed}
 use Rattle.thm_reading.specs.Live.{liveReports, live, Alike}
 use Rattle.thm_reading.specs.Dead.{Sized}
 use Rattle.thm_reading.proofs.Tables.{cut-twice, live-twice}
@@ -165,7 +165,7 @@ module _ (s : List ℕ) (at : Micros) (a : Address) (bytes : List ℕ) where
   answered-blind : (c : Central) (i : ℕ) → liveHeard (answered c s at bytes i) ≡ liveHeard (answered (live c) s at bytes i)
   answered-blind c i = λ k.
       record {
-        state = withReports (sym (live-twice c) k) (responded-cut (c .reports) i (at .0) (length bytes) k);
+        state = withReports (sym (live-twice c) k) (responded-cut (c .reports) i at (length bytes) k);
         refusal = accepted;
         action = action.Nothing;
         store = responseStore i bytes s;

@@ -2,14 +2,14 @@
 use Prim.Native.Nat.{ℕ, _+_, _-_}
 use mathlib.Core.Path.{_≡_, sym}
 use mathlib.Core.Bool.{Bool}
-use Rattle.base.specs.Bytes.{leAt}
+use Rattle.bytes.specs.Bytes.{leAt}
 use Rattle.time.specs.declared.Micros.{Micros}
-use Rattle.waits.specs.Kept.{keptValue}
+use Rattle.notifications.specs.Kept.{keptValue}
 use Rattle.state.specs.Central.{withCounters, withNotifications}
-use Rattle.turns.specs.World.{Held, World}
-use Rattle.starts.specs.Wait.{checkWait}
-use Rattle.frames.specs.Payload.{payloadAt, payload}
-use Rattle.replies.specs.Replies.{exchange, noted, keepOne, confirmed, notice}
+use Rattle.script_rules.specs.World.{Held, World}
+use Rattle.script_rules.specs.Wait.{checkWait}
+use Rattle.link_rules.specs.Payload.{payloadAt, payload}
+use Rattle.link_rules.specs.Replies.{exchange, noted, keepOne, confirmed, notice}
 use Rattle.thm_reading.proofs.Tables.{live-twice, notifications-keep}
 use Rattle.thm_reading.proofs.Blind.{cut, cutWorld, world-twice, via}
 use Rattle.thm_reading.proofs.Starts.{check-blind}

@@ -9,22 +9,23 @@ use lib.ListN.{length, take, drop, getD, set, length-append, List·getD-append}
 use lib.Seq.{take-all, take-at, getD-take, length-take-le, take-suc-set}
 use lib.Dec.{leb}
 use borrow.Author.Tests.{leb-true, leb-false}
-use Rattle.queues.specs.Queue.{pushed, onto}
-use Rattle.queues.specs.QueueLaws.{length-pushed}
-use Rattle.places.specs.Sizes.{mostReports}
+use Rattle.lists.specs.Queue.{pushed, onto}
+use Rattle.lists.proofs.QueueLaws.{length-pushed}
+use Rattle.state_places.specs.Sizes.{mostReports}
+use Rattle.time.specs.declared.Micros.{Micros}
 use Rattle.state.specs.declared.Reports.{Reports}
 use Rattle.state.specs.declared.Keys.{Keys}
-use Rattle.reports.specs.Reports.{Line, noResponse, behind, heardAgain, heardFirst, lastPlace, responded, responseBytes, responseOf, askedToo}
+use Rattle.adv_reports.specs.Reports.{Line, noResponse, behind, heardAgain, heardFirst, lastPlace, responded, responseBytes, responseOf, askedToo}
 use Rattle.thm_reading.specs.Live.{liveKeys, liveReports}
 use Rattle.thm_reading.proofs.Tables.{cut-twice}
 
 -- ---- one place changes
 
-cut-set : (n : ℕ) (l : List ℕ) (i x : ℕ) → take n (set l i x) ≡ take n (set (take n l) i x)
+cut-set : {A : Type 0} (n : ℕ) (l : List A) (i : ℕ) (x : A) → take n (set l i x) ≡ take n (set (take n l) i x)
 cut-set zero l i x = refl
 cut-set (suc n) [] i x = refl
-cut-set (suc n) (y ∷ l) zero x = ap (λ (t : List ℕ). x ∷ t) (sym (cut-twice n l))
-cut-set (suc n) (y ∷ l) (suc i) x = ap (λ (t : List ℕ). y ∷ t) (cut-set n l i x)
+cut-set {A} (suc n) (y ∷ l) zero x = ap (λ (t : List A). x ∷ t) (sym (cut-twice n l))
+cut-set {A} (suc n) (y ∷ l) (suc i) x = ap (λ (t : List A). y ∷ t) (cut-set n l i x)
 
 pub again-cut : (r : Reports) (i : ℕ) (l : Line) → liveReports (heardAgain r i l) ≡ liveReports (heardAgain (liveReports r) i l)
 again-cut r i l = λ k.
@@ -40,7 +41,7 @@ again-cut r i l = λ k.
       count = r .count;
     }
 
-pub responded-cut : (r : Reports) (i at n : ℕ) → liveReports (responded r i at n) ≡ liveReports (responded (liveReports r) i at n)
+pub responded-cut : (r : Reports) (i : ℕ) (at : Micros) (n : ℕ) → liveReports (responded r i at n) ≡ liveReports (responded (liveReports r) i at n)
 responded-cut r i at n = λ k.
     record {
       who = sym (cut-twice (r .count) (r .who)) k;
@@ -60,14 +61,14 @@ again-response r i l s h = ap (λ (n : ℕ). responseBytes s i n) (sym (getD-tak
 -- ---- a new one stands behind the others
 
 -- what is read of the first places, whatever stands beyond them
-module _ {X : Type 0} (n : ℕ) (a : List ℕ) (x : ℕ) (f : List ℕ → X) where
+module _ {A X : Type 0} (n : ℕ) (a : List A) (x : A) (f : List A → X) where
   -- those that are there then
-  abbrev there : List ℕ
+  abbrev there : List A
   there = pushed mostReports (take n a) x
 
-  pub behind-cut : (length there ≡ min (n + 1) mostReports → (b : List ℕ) → f (onto a there) ≡ f (onto b there))
+  pub behind-cut : (length there ≡ min (n + 1) mostReports → (b : List A) → f (onto a there) ≡ f (onto b there))
       → f (behind n a x) ≡ f (behind n (take n a) x)
-  behind-cut same = go (leb n (length a)) refl ∙ ap (λ (l : List ℕ). f (onto (take n a) (pushed mostReports l x))) (sym (cut-twice n a))
+  behind-cut same = go (leb n (length a)) refl ∙ ap (λ (l : List A). f (onto (take n a) (pushed mostReports l x))) (sym (cut-twice n a))
     where
       go : (b : Bool) → leb n (length a) ≡ b → f (onto a there) ≡ f (onto (take n a) there)
       go true e =
@@ -75,9 +76,9 @@ module _ {X : Type 0} (n : ℕ) (a : List ℕ) (x : ℕ) (f : List ℕ → X) wh
           same (length-pushed mostReports (take n a) x ∙ ap (λ (k : ℕ). min (k + 1) mostReports) (length-take-le n a m)) (take n a)
       go false e =
           let m : length a < n = leb-false n (length a) e in
-          ap (λ (l : List ℕ). f (onto l there)) (sym (take-all n a (omega arith)))
+          ap (λ (l : List A). f (onto l there)) (sym (take-all n a (omega arith)))
 
-live-behind : (n : ℕ) (a : List ℕ) (x : ℕ) → take (min (n + 1) mostReports) (behind n a x) ≡ take (min (n + 1) mostReports) (behind n (take n a) x)
+live-behind : {A : Type 0} (n : ℕ) (a : List A) (x : A) → take (min (n + 1) mostReports) (behind n a x) ≡ take (min (n + 1) mostReports) (behind n (take n a) x)
 live-behind n a x =
     behind-cut n a x (λ l. take (min (n + 1) mostReports) l)
     (λ e b. take-at (pushed mostReports (take n a) x) (drop (length (pushed mostReports (take n a) x)) a) (min (n + 1) mostReports) e

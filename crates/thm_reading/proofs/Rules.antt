@@ -5,28 +5,28 @@ use mathlib.Core.Bool.{Bool, _&&_}
 use mathlib.Core.List.{List, [], _∷_}
 use lib.ListN.{getD}
 use lib.Dec.{eqb, leb}
-use Rattle.base.specs.Choice.{pick, among}
-use Rattle.base.specs.Bytes.{leAt}
+use Rattle.bytes.specs.Choice.{pick, among}
+use Rattle.bytes.specs.Bytes.{leAt}
 use Rattle.time.specs.declared.Micros.{Micros}
-use Rattle.wire.specs.Numbers.{cidAtt, cidSignaling, cidSmp}
+use Rattle.l2cap.specs.Numbers.{cidAtt, cidSignaling, cidSmp}
 use Rattle.att_pdu.specs.Numbers.{opErrorRsp, opReadRsp, opWriteRsp, opExchangeMtuReq, opHandleValueNtf, opHandleValueInd, errInvalidHandle, errRequestNotSupported, errAttributeNotFound}
 use Rattle.state.specs.declared.Running.{Running}
 use Rattle.state.specs.declared.StepStatus.the-variants.{Ok, AttError}
-use Rattle.turns.specs.World.{Held, World, onHeld, onTold, onState}
-use Rattle.questions.specs.declared.Asked.{Asked}
-use Rattle.questions.specs.declared.Asked.the-variants as asked-variants
-use Rattle.questions.specs.Questions.{askedBy}
-use Rattle.answers.specs.Answers.{counts, smallerMtu}
-use Rattle.moves.specs.Moves.{over, valueRead, become, serviceOf, unasked}
-use Rattle.characteristic_walk.specs.Characteristics.{characteristicsHeard, characteristicsDone, descriptorsHeard, rangeDone}
-use Rattle.frames.specs.Payload.{payloadAt, payload, withMtu}
-use Rattle.replies.specs.Replies.{refuse, exchange, notice, onSignaling, onSmp}
-use Rattle.rules.specs.Errors.{absent, failed}
-use Rattle.rules.specs.Responses.{present, taken, onResponse}
-use Rattle.rules.specs.Att.{searches, accesses, silent, otherRequest, byOpcode, onAtt}
-use Rattle.rules.specs.Channel.{onChannel}
-use Rattle.rules.specs.Link.{frameRead, gather, hear}
-use Rattle.fragments.specs.Fragment.{withHeld, dropped, gathered, frameLength, frameChannel, whole}
+use Rattle.script_rules.specs.World.{Held, World, onHeld, onTold, onState}
+use Rattle.link_questions.specs.declared.Asked.{Asked}
+use Rattle.link_questions.specs.declared.Asked.the-variants as asked-variants
+use Rattle.link_questions.specs.Questions.{askedBy}
+use Rattle.link_rules.specs.Answers.{counts, smallerMtu}
+use Rattle.link_rules.specs.Moves.{over, valueRead, become, serviceOf, unasked}
+use Rattle.link_rules.specs.Characteristics.{characteristicsHeard, characteristicsDone, descriptorsHeard, rangeDone}
+use Rattle.link_rules.specs.Payload.{payloadAt, payload, withMtu}
+use Rattle.link_rules.specs.Replies.{refuse, exchange, notice, onSignaling, onSmp}
+use Rattle.link_rules.specs.Errors.{absent, failed}
+use Rattle.link_rules.specs.Responses.{present, taken, onResponse}
+use Rattle.link_rules.specs.Att.{searches, accesses, silent, otherRequest, byOpcode, onAtt}
+use Rattle.link_rules.specs.Channel.{onChannel}
+use Rattle.link_rules.specs.Link.{frameRead, gather, hear}
+use Rattle.link_rules.specs.Fragment.{withHeld, dropped, gathered, frameLength, frameChannel, whole}
 use Rattle.thm_reading.proofs.Blind.{cutWorld, world-twice, pick-both}
 use Rattle.thm_reading.proofs.Turns.{finish-world}
 use Rattle.thm_reading.proofs.Starts.{by-service}

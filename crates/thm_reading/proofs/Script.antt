@@ -1,20 +1,20 @@
 -- The script that goes on, a timer, a link that comes and a link that goes, are blind to dead places.
 use Prim.Native.Nat.{ℕ, zero, suc, _<_}
 use mathlib.Core.Path.{_≡_, refl, sym, ap, _∙_}
-use Rattle.places.specs.Sizes.{heldAt}
+use Rattle.state_places.specs.Sizes.{heldAt}
 use Rattle.time.specs.declared.Micros.{Micros}
 use Rattle.state.specs.Central.{withBearer}
 use Rattle.state.specs.declared.Step.{Step}
 use Rattle.state.specs.declared.StepStatus.the-variants.{Ok}
-use Rattle.kinds.specs.Kinds.{isConnect}
-use Rattle.bearers.specs.Bearers.{linked, unlinked}
-use Rattle.timeouts.specs.Timeouts.{timedOut, due}
-use Rattle.turns.specs.World.{Held, World, onHeld, onState}
-use Rattle.waiting.specs.Waiting.{takeStep}
-use Rattle.starts.specs.Start.{ends, startUnlinked, start}
-use Rattle.script.specs.Script.{canGo, stepOnce, advances, advance, stepUnlinked, advancesUnlinked, advanceUnlinked}
-use Rattle.script.proofs.AdvanceLaws.{goes-on}
-use Rattle.comings.specs.Comings.{expire, greeted, connect, goesOn, cutStatus, cutOff, lose}
+use Rattle.state_kinds.specs.Kinds.{isConnect}
+use Rattle.script_rules.specs.Bearers.{linked, unlinked}
+use Rattle.script_rules.specs.Timeouts.{timedOut, due}
+use Rattle.script_rules.specs.World.{Held, World, onHeld, onState}
+use Rattle.script_rules.specs.Waiting.{takeStep}
+use Rattle.script_rules.specs.Start.{ends, startUnlinked, start}
+use Rattle.script_rules.specs.Script.{canGo, stepOnce, advances, advance, stepUnlinked, advancesUnlinked, advanceUnlinked}
+use Rattle.script_rules.proofs.AdvanceLaws.{goes-on}
+use Rattle.script_rules.specs.Comings.{expire, greeted, connect, goesOn, cutStatus, cutOff, lose}
 use Rattle.thm_reading.proofs.Blind.{cut, cutWorld, held-twice, world-twice, pick-if, pick-both}
 use Rattle.thm_reading.proofs.Turns.{finish-blind, finish-world}
 use Rattle.thm_reading.proofs.Queue.{take-blind}

@@ -5,49 +5,49 @@ use mathlib.Core.Bool.{Bool, _||_}
 use mathlib.Core.List.{List, []}
 use lib.ListN.{drop}
 use lib.Dec.{eqb, ltb}
-use Rattle.base.specs.Choice.{pick}
-use Rattle.queues.specs.Blocks.{bytes}
-use Rattle.places.specs.Sizes.{runningAt, heldAt}
+use Rattle.bytes.specs.Choice.{pick}
+use Rattle.lists.specs.Blocks.{bytes}
+use Rattle.state_places.specs.Sizes.{runningAt, heldAt}
 use Rattle.time.specs.declared.Micros.{Micros}
 use Rattle.time.specs.declared.Millis.{Millis}
-use Rattle.wire.specs.Numbers.{cidAtt}
-use Rattle.wire.specs.Frame.{attPdu}
+use Rattle.l2cap.specs.Numbers.{cidAtt}
+use Rattle.l2cap.specs.Frame.{attPdu}
 use Rattle.att_pdu.specs.Numbers.{opWriteReq, opWriteCmd}
 use Rattle.att_pdu.specs.Pdu.{exchangeMtuReq, readReq, writeReq, readByTypeReq, readByGroupTypeReq, findInformationReq}
 use Rattle.uuid.specs.declared.Uuid.{Uuid}
-use Rattle.services.specs.Service as service
-use Rattle.services.specs.declared.Service.{Service}
-use Rattle.services.specs.declared.Which as service-which
-use Rattle.services.specs.declared.Which.the-variants as service-variants
-use Rattle.characteristics.specs.Characteristic as characteristic
-use Rattle.characteristics.specs.declared.Characteristic.{Characteristic}
-use Rattle.characteristics.specs.declared.Cccd.{Cccd}
-use Rattle.characteristics.specs.declared.Cccd.the-variants as cccd
-use Rattle.characteristics.specs.declared.Which.{Which}
-use Rattle.characteristics.specs.declared.Which.the-variants.{At, Nothing}
-use Rattle.descriptors.specs.declared.Range.{Range}
-use Rattle.descriptors.specs.declared.Range.the-variants as range
-use Rattle.descriptors.specs.Range.{declaredIn, firstRange, descriptorRange}
-use Rattle.waits.specs.declared.Notification.{Notification}
-use Rattle.waits.specs.Kept.{heard, skippedOf}
-use Rattle.waits.specs.Wait.{passes}
+use Rattle.gatt_services.specs.Service as service
+use Rattle.gatt_services.specs.declared.Service.{Service}
+use Rattle.gatt_services.specs.declared.Which as service-which
+use Rattle.gatt_services.specs.declared.Which.the-variants as service-variants
+use Rattle.gatt_characteristics.specs.Characteristic as characteristic
+use Rattle.gatt_characteristics.specs.declared.Characteristic.{Characteristic}
+use Rattle.gatt_characteristics.specs.declared.Cccd.{Cccd}
+use Rattle.gatt_characteristics.specs.declared.Cccd.the-variants as cccd
+use Rattle.gatt_characteristics.specs.declared.Which.{Which}
+use Rattle.gatt_characteristics.specs.declared.Which.the-variants.{At, Nothing}
+use Rattle.gatt_descriptors.specs.declared.Range.{Range}
+use Rattle.gatt_descriptors.specs.declared.Range.the-variants as range
+use Rattle.gatt_descriptors.specs.Range.{declaredIn, firstRange, descriptorRange}
+use Rattle.notifications.specs.declared.Notification.{Notification}
+use Rattle.notifications.specs.Kept.{heard, skippedOf}
+use Rattle.notifications.specs.Wait.{passes}
 use Rattle.state.specs.Central.{Central, withCounters, withBearer, withServices, withCharacteristics}
 use Rattle.state.specs.declared.Step.{Step}
 use Rattle.state.specs.declared.Step.the-variants.{Scan, Connect, ExchangeMtu, DiscoverServices, DiscoverCharacteristics, Subscribe, Write, Read, WaitNotification, Wait}
 use Rattle.state.specs.declared.Step.the-variants.{Disconnect, Capture, CaptureSecrets}
 use Rattle.state.specs.declared.StepStatus.the-variants.{Ok, NotConnected, NotFound, TooLong}
-use Rattle.fit.specs.Steps.{leastMtu}
-use Rattle.turns.specs.World.{Held, World, onHeld, onState}
-use Rattle.turns.specs.Finish.{withLink, finish}
-use Rattle.turns.specs.Send.{request, send}
-use Rattle.discovery.specs.Discovery.{lastHandle, primaryService, characteristicType, asking, discoverServices, askRange, discoverDescriptors, discoverCharacteristics}
-use Rattle.starts.specs.declared.Alone.{Alone}
-use Rattle.starts.specs.declared.Alone.the-variants as alone
-use Rattle.starts.specs.declared.Awaited.{Awaited}
-use Rattle.starts.specs.declared.Awaited.the-variants as awaited-variants
-use Rattle.starts.specs.Wait.{waitPasses, passed, checkOne, awaited, checkFor, checkWait}
-use Rattle.starts.specs.Start.{ends, waitsFor, unlinkedStep, startAlone, startUnlinked, forgotten, discoverIn, configuration, subscribeAt, subscribe, commanded, write, read}
-use Rattle.starts.specs.Start.{terminated, asksTo, disconnect, named, startLinked, start}
+use Rattle.state_rules.specs.Steps.{defaultMtu}
+use Rattle.script_rules.specs.World.{Held, World, onHeld, onState}
+use Rattle.script_rules.specs.Finish.{withLink, finish}
+use Rattle.script_rules.specs.Send.{request, send}
+use Rattle.script_rules.specs.Discovery.{lastHandle, primaryService, characteristicType, asking, discoverServices, askRange, discoverDescriptors, discoverCharacteristics}
+use Rattle.script_rules.specs.declared.Alone.{Alone}
+use Rattle.script_rules.specs.declared.Alone.the-variants as alone
+use Rattle.script_rules.specs.declared.Awaited.{Awaited}
+use Rattle.script_rules.specs.declared.Awaited.the-variants as awaited-variants
+use Rattle.script_rules.specs.Wait.{waitPasses, passed, checkOne, awaited, checkFor, checkWait}
+use Rattle.script_rules.specs.Start.{ends, waitsFor, unlinkedStep, startAlone, startUnlinked, forgotten, discoverIn, configuration, subscribeAt, subscribe, commanded, write, read}
+use Rattle.script_rules.specs.Start.{terminated, asksTo, disconnect, named, startLinked, start}
 use Rattle.thm_reading.specs.Live.{live}
 use Rattle.thm_reading.proofs.Tables.{cut-twice, live-twice}
 use Rattle.thm_reading.proofs.Blind.{cut, cutWorld, held-twice, world-twice, pick-if, pick-both}
@@ -238,7 +238,7 @@ module _ (at : Micros) where
   unfolding startLinked
   start-linked-blind w (Scan ms) = held-wait-blind w ms
   start-linked-blind w (Connect target interval latency timeout ms) = finish-world w at Ok heldAt 0
-  start-linked-blind w (ExchangeMtu mtu) = request-blind w at (exchangeMtuReq (max mtu leastMtu))
+  start-linked-blind w (ExchangeMtu mtu) = request-blind w at (exchangeMtuReq (max mtu defaultMtu))
   start-linked-blind w DiscoverServices = forget-blind w
   start-linked-blind w (DiscoverCharacteristics u) =
       discover-in-blind w (service.serviceWith u (service.known (w .held .state .services)))

@@ -5,19 +5,19 @@ use mathlib.Core.List.{List}
 use native.Mathlib.Omega.{arith}
 use lib.ListN.{length, take}
 use lib.Seq.{take-take}
-use Rattle.queues.specs.Queue.{pushed, onto}
-use Rattle.queues.specs.QueueLaws.{take-onto}
-use Rattle.places.specs.Sizes.{mostResults, mostNotifications}
-use Rattle.services.specs.declared.Service.{Service}
-use Rattle.services.specs.declared.Services.{Services}
-use Rattle.services.specs.Service as service
-use Rattle.characteristics.specs.declared.Characteristic.{Characteristic}
-use Rattle.characteristics.specs.declared.Characteristics.{Characteristics}
-use Rattle.characteristics.specs.Characteristic as characteristic
-use Rattle.waits.specs.declared.Notification.{Notification}
-use Rattle.waits.specs.declared.Notifications.{Notifications}
-use Rattle.waits.specs.Kept.{keeping}
-use Rattle.waits.specs.Kept as waits
+use Rattle.lists.specs.Queue.{pushed, onto}
+use Rattle.lists.proofs.QueueLaws.{take-onto}
+use Rattle.state_places.specs.Sizes.{mostResults, mostNotifications}
+use Rattle.gatt_services.specs.declared.Service.{Service}
+use Rattle.gatt_services.specs.declared.Services.{Services}
+use Rattle.gatt_services.specs.Service as service
+use Rattle.gatt_characteristics.specs.declared.Characteristic.{Characteristic}
+use Rattle.gatt_characteristics.specs.declared.Characteristics.{Characteristics}
+use Rattle.gatt_characteristics.specs.Characteristic as characteristic
+use Rattle.notifications.specs.declared.Notification.{Notification}
+use Rattle.notifications.specs.declared.Notifications.{Notifications}
+use Rattle.notifications.specs.Kept.{keeping}
+use Rattle.notifications.specs.Kept as waits
 use Rattle.state.specs.Central.{Central}
 use Rattle.state.specs.declared.Queue.{Queue}
 use Rattle.state.specs.declared.Queued.{Queued}
@@ -25,8 +25,8 @@ use Rattle.state.specs.declared.Results.{Results}
 use Rattle.state.specs.declared.StepResult.{StepResult}
 use Rattle.state.specs.declared.Reports.{Reports}
 use Rattle.state.specs.declared.Keys.{Keys}
-use Rattle.turns.specs.Finish.{kept, pushedResult}
-use Rattle.waiting.specs.Waiting.{queueing}
+use Rattle.script_rules.specs.Finish.{kept, pushedResult}
+use Rattle.script_rules.specs.Waiting.{queueing}
 use Rattle.thm_reading.specs.Live.{liveQueue, liveKeys, liveResults, liveReports, liveServices, liveCharacteristics, liveNotifications, live}
 
 -- ---- lists

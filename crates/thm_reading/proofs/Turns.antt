@@ -2,16 +2,16 @@
 use Prim.Native.Nat.{ℕ}
 use mathlib.Core.Path.{_≡_, sym}
 use mathlib.Core.List.{List}
-use Rattle.queues.specs.Blocks.{stored}
+use Rattle.lists.specs.Blocks.{stored}
 use Rattle.time.specs.declared.Micros.{Micros}
 use Rattle.time.specs.declared.Millis.{Millis}
 use Rattle.state.specs.Central.{Central, withRunning, withBearer, withResults}
 use Rattle.state.specs.declared.StepStatus.{StepStatus}
 use Rattle.state.specs.declared.StepResult.{StepResult}
-use Rattle.turns.specs.World.{Held, World, onHeld}
-use Rattle.turns.specs.Finish.{resultPart, idle, withLink, answered, ended, finish}
-use Rattle.turns.specs.Send.{request}
-use Rattle.starts.specs.Start.{waitsFor}
+use Rattle.script_rules.specs.World.{Held, World, onHeld}
+use Rattle.script_rules.specs.Finish.{resultPart, idle, withLink, answered, ended, finish}
+use Rattle.script_rules.specs.Send.{request}
+use Rattle.script_rules.specs.Start.{waitsFor}
 use Rattle.thm_reading.proofs.Tables.{live-twice, results-push}
 use Rattle.thm_reading.proofs.Blind.{cut, cutWorld, held-twice, world-twice, pick-both}
 

@@ -4,28 +4,28 @@ use mathlib.Core.Path.{_≡_, sym, ap, _∙_}
 use mathlib.Core.Bool.{Bool}
 use mathlib.Core.List.{List}
 use lib.Dec.{eqb, leb, ltb}
-use Rattle.base.specs.Choice.{pick}
-use Rattle.places.specs.Sizes.{heldAt, mostServices, mostCharacteristics}
+use Rattle.bytes.specs.Choice.{pick}
+use Rattle.state_places.specs.Sizes.{heldAt, mostServices, mostCharacteristics}
 use Rattle.time.specs.declared.Micros.{Micros}
-use Rattle.entries.specs.Taken.{taken}
-use Rattle.services.specs.Service as service
-use Rattle.services.specs.declared.Service.{Service}
-use Rattle.services.specs.declared.Which as service-which
-use Rattle.services.specs.declared.Which.the-variants as which-service
-use Rattle.characteristics.specs.Characteristic as characteristic
-use Rattle.characteristics.specs.declared.Characteristic.{Characteristic}
-use Rattle.descriptors.specs.Named.{givenAll, after, descriptorsNamed}
+use Rattle.lists.specs.Taken.{taken}
+use Rattle.gatt_services.specs.Service as service
+use Rattle.gatt_services.specs.declared.Service.{Service}
+use Rattle.gatt_services.specs.declared.Which as service-which
+use Rattle.gatt_services.specs.declared.Which.the-variants as which-service
+use Rattle.gatt_characteristics.specs.Characteristic as characteristic
+use Rattle.gatt_characteristics.specs.declared.Characteristic.{Characteristic}
+use Rattle.gatt_descriptors.specs.Named.{givenAll, after, descriptorsNamed}
 use Rattle.state.specs.Central.{withServices, withCharacteristics}
 use Rattle.state.specs.declared.StepStatus.{StepStatus}
 use Rattle.state.specs.declared.StepStatus.the-variants.{Ok, NotFound, TableFull}
-use Rattle.turns.specs.World.{World}
-use Rattle.discovery.specs.Discovery.{lastHandle, discoverServices, discoverDescriptors, discoverCharacteristics}
-use Rattle.answers.specs.Answers.{widthOf}
-use Rattle.questions.specs.declared.Goal.{Goal}
-use Rattle.questions.specs.declared.Goal.the-variants as goal
-use Rattle.moves.specs.Moves.{over, become, serviceOf, entriesOf, rangeEnd, afterRange}
-use Rattle.service_walk.specs.Services.{walkInto, servicesDone, servicesFound, servicesHeard}
-use Rattle.characteristic_walk.specs.Characteristics.{characteristicsFound, characteristicsHeard, characteristicsDone, goOn, descriptorsFound, descriptorsHeard, rangeDone}
+use Rattle.script_rules.specs.World.{World}
+use Rattle.script_rules.specs.Discovery.{lastHandle, discoverServices, discoverDescriptors, discoverCharacteristics}
+use Rattle.link_rules.specs.Answers.{widthOf}
+use Rattle.link_questions.specs.declared.Goal.{Goal}
+use Rattle.link_questions.specs.declared.Goal.the-variants as goal
+use Rattle.link_rules.specs.Moves.{over, become, serviceOf, entriesOf, rangeEnd, afterRange}
+use Rattle.link_rules.specs.Services.{walkInto, servicesDone, servicesFound, servicesHeard}
+use Rattle.link_rules.specs.Characteristics.{characteristicsFound, characteristicsHeard, characteristicsDone, goOn, descriptorsFound, descriptorsHeard, rangeDone}
 use Rattle.thm_reading.specs.Live.{live, liveServices, liveCharacteristics}
 use Rattle.thm_reading.proofs.Tables.{cut-twice, live-twice, services-hold, characteristics-hold}
 use Rattle.thm_reading.proofs.Blind.{cutWorld, pick-both, via}

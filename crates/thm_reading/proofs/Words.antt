@@ -8,11 +8,11 @@ use Rattle.words.specs.Tables.{keysIn}
 use Rattle.words.proofs.TableLaws.{table-length}
 use Rattle.state_core.specs.declared.Core.{Core}
 use Rattle.state_core.specs.Reading.{central}
-use Rattle.batch.specs.Batch as batch
-use Rattle.events.specs.Events as events
-use Rattle.rules.specs.Link as link
-use Rattle.hearing.specs.Hearing as radio
-use Rattle.readers.specs.Readers as readers
+use Rattle.script_rules.specs.Batch as batch
+use Rattle.script_rules.specs.Events as events
+use Rattle.link_rules.specs.Link as link
+use Rattle.radio_rules.specs.Hearing as radio
+use Rattle.state_readers.specs.Readers as readers
 use Rattle.thm_reading.specs.Live.{Alike}
 use Rattle.thm_reading.specs.Same.{SameOutcome, SameQuiet, SameHeard}
 use Rattle.thm_reading.specs.Dead.{Sized, AnswersAlike}

@@ -9,16 +9,16 @@ use lib.ListN.{length}
 use Rattle.time.specs.declared.Micros.{Micros}
 use Rattle.state.specs.Central.{Central}
 use Rattle.state.specs.declared.Address.{Address}
-use Rattle.waiting.specs.declared.Batch.{Batch}
-use Rattle.calls.specs.Outcome.{Outcome, Quiet}
-use Rattle.batch.specs.Batch as batch
-use Rattle.events.specs.Events as events
-use Rattle.rules.specs.Link as link
-use Rattle.hearing.specs.Hearing as radio
-use Rattle.readers.specs.Readers as readers
-use Rattle.readers.specs.declared.Timer.{Timer}
-use Rattle.readers.specs.declared.Handle.{Handle}
-use Rattle.readers.specs.declared.Given.{Given}
+use Rattle.script_rules.specs.declared.Batch.{Batch}
+use Rattle.script_rules.specs.Outcome.{Outcome, Quiet}
+use Rattle.script_rules.specs.Batch as batch
+use Rattle.script_rules.specs.Events as events
+use Rattle.link_rules.specs.Link as link
+use Rattle.radio_rules.specs.Hearing as radio
+use Rattle.state_readers.specs.Readers as readers
+use Rattle.state_readers.specs.declared.Timer.{Timer}
+use Rattle.state_readers.specs.declared.Handle.{Handle}
+use Rattle.state_readers.specs.declared.Given.{Given}
 use Rattle.state_core.specs.declared.Core.{Core}
 use Rattle.state_core.specs.Reading.{central}
 use Rattle.central_answers.specs.declared.Answer.{Answer}

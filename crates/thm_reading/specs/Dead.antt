@@ -4,16 +4,16 @@ use mathlib.Core.Path.{_≡_}
 use mathlib.Core.Bool.{Bool}
 use mathlib.Core.List.{List}
 use lib.ListN.{length}
-use Rattle.places.specs.Sizes.{mostKeys}
+use Rattle.state_places.specs.Sizes.{mostKeys}
 use Rattle.time.specs.declared.Micros.{Micros}
 use Rattle.state.specs.Central.{Central}
 use Rattle.state.specs.declared.Address.{Address}
-use Rattle.waiting.specs.declared.Batch.{Batch}
-use Rattle.batch.specs.Batch as batch
-use Rattle.events.specs.Events as events
-use Rattle.rules.specs.Link as link
-use Rattle.hearing.specs.Hearing as radio
-use Rattle.readers.specs.Readers as readers
+use Rattle.script_rules.specs.declared.Batch.{Batch}
+use Rattle.script_rules.specs.Batch as batch
+use Rattle.script_rules.specs.Events as events
+use Rattle.link_rules.specs.Link as link
+use Rattle.radio_rules.specs.Hearing as radio
+use Rattle.state_readers.specs.Readers as readers
 use Rattle.thm_reading.specs.Live.{Alike}
 use Rattle.thm_reading.specs.Same.{SameOutcome, SameQuiet, SameHeard}
 

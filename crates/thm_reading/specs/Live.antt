@@ -1,9 +1,9 @@
 -- A table's live entries are its first `count`; a place at or beyond the count is dead.
 use mathlib.Core.Path.{_≡_}
 use lib.ListN.{take}
-use Rattle.services.specs.declared.Services.{Services}
-use Rattle.characteristics.specs.declared.Characteristics.{Characteristics}
-use Rattle.waits.specs.declared.Notifications.{Notifications}
+use Rattle.gatt_services.specs.declared.Services.{Services}
+use Rattle.gatt_characteristics.specs.declared.Characteristics.{Characteristics}
+use Rattle.notifications.specs.declared.Notifications.{Notifications}
 use Rattle.state.specs.declared.Queue.{Queue}
 use Rattle.state.specs.declared.Results.{Results}
 use Rattle.state.specs.declared.Reports.{Reports}

@@ -1,7 +1,7 @@
 -- What two calls leave and answer is the same, but for dead places of the state.
 use mathlib.Core.Path.{_≡_}
-use Rattle.calls.specs.Outcome.{Outcome, Quiet}
-use Rattle.hearing.specs.Hearing as radio
+use Rattle.script_rules.specs.Outcome.{Outcome, Quiet}
+use Rattle.radio_rules.specs.Hearing as radio
 use Rattle.thm_reading.specs.Live.{Alike}
 
 -- of calls that may send

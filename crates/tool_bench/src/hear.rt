@@ -1,6 +1,6 @@
 // Advertisements, one after another.
 use crate::told;
-use matching::AdvAction;
+use radio_match::AdvAction;
 use state::Address;
 use state_core::Core;
 use time::Micros;
@@ -17,7 +17,7 @@ pub fn address(n: u32) -> Address {
 
 // The number that a report or a key has for it.
 pub fn key(n: u32) -> u64 {
-    reports::key_of(address(n))
+    adv_reports::key_of(address(n))
 }
 
 // The one after n, of so many.

@@ -2,11 +2,11 @@
 use crate::begin;
 use crate::row;
 use crate::told;
+use script_rules::Batch;
+use script_rules::Placed;
 use state::Step;
 use state_core::Core;
 use time::Micros;
-use waiting::Batch;
-use waiting::Placed;
 
 // The same step 64 times, each with the value of so many bytes that the lent values begin with.
 pub fn batch_of(step: Step, len: usize) -> Batch {

@@ -1,12 +1,12 @@
 // The whole state in words (docs/TRACE.md, 'Lines'), each part with its word before it: the core goes by value, the tables are lent.
-use characteristics::Characteristic;
-use characteristics::Characteristics;
-use lines::line;
-use rows::Advertiser;
+use gatt_characteristics::Characteristic;
+use gatt_characteristics::Characteristics;
 use state::Bearer;
 use state::Counters;
 use state::Running;
 use state_core::Core;
+use tool_lines::line;
+use tool_rows::Advertiser;
 use words_report::Report;
 
 fn tell_counters(to: &mut [u8], at: usize, k: Counters) -> usize {
@@ -18,7 +18,7 @@ fn tell_counters(to: &mut [u8], at: usize, k: Counters) -> usize {
 
 fn tell_bearer(to: &mut [u8], at: usize, b: Bearer, store: &[u8]) -> usize {
     let n = line::word(to, at, b"link");
-    rows::bearer(to, n, b, store)
+    tool_rows::bearer(to, n, b, store)
 }
 
 // ---- the tables: the first count places of each, and none beyond its last
@@ -26,7 +26,7 @@ fn tell_bearer(to: &mut [u8], at: usize, b: Bearer, store: &[u8]) -> usize {
 fn tell_keys(tables: &[u64; 1056], count: usize, to: &mut [u8], at: usize) -> usize {
     let mut n = line::number(to, at, count as u64);
     let mut i = 0;
-    while i < places::MAX_KEYS {
+    while i < state_places::MAX_KEYS {
         if count <= i {
             break;
         }
@@ -40,12 +40,12 @@ fn tell_keys(tables: &[u64; 1056], count: usize, to: &mut [u8], at: usize) -> us
 fn tell_queue(tables: &[u64; 1056], count: usize, to: &mut [u8], at: usize, store: &[u8]) -> usize {
     let mut n = line::named(to, at, b"waiting", count as u64);
     let mut i = 0;
-    while i < places::MAX_STEPS {
+    while i < state_places::MAX_STEPS {
         if count <= i {
             break;
         }
         let x = words_step::queued_at(tables, i);
-        n = rows::queued(to, n, x, store, places::waiting_at(i));
+        n = tool_rows::queued(to, n, x, store, state_places::waiting_at(i));
         i += 1;
     }
     n
@@ -60,12 +60,12 @@ fn tell_results(
 ) -> usize {
     let mut n = line::named(to, at, b"results", count as u64);
     let mut i = 0;
-    while i < places::MAX_RESULTS {
+    while i < state_places::MAX_RESULTS {
         if count <= i {
             break;
         }
         let x = words_result::result_at(tables, i);
-        n = rows::kept(to, n, x, store, places::result_at(i));
+        n = tool_rows::kept(to, n, x, store, state_places::result_at(i));
         i += 1;
     }
     n
@@ -92,18 +92,18 @@ fn tell_reports(
 ) -> usize {
     let mut n = line::named(to, at, b"reports", count as u64);
     let mut i = 0;
-    while i < places::MAX_REPORTS {
+    while i < state_places::MAX_REPORTS {
         if count <= i {
             break;
         }
         let x = advertiser(words_report::report_at(tables, i));
-        n = rows::report(
+        n = tool_rows::report(
             to,
             n,
             x,
             store,
-            places::report_at(i),
-            places::response_at(i),
+            state_places::report_at(i),
+            state_places::response_at(i),
         );
         i += 1;
     }
@@ -113,12 +113,12 @@ fn tell_reports(
 fn tell_services(tables: &[u64; 1056], count: usize, to: &mut [u8], at: usize) -> usize {
     let mut n = line::named(to, at, b"services", count as u64);
     let mut i = 0;
-    while i < places::MAX_SERVICES {
+    while i < state_places::MAX_SERVICES {
         if count <= i {
             break;
         }
         let x = words_service::service_at(tables, i);
-        n = rows::service(to, n, x);
+        n = tool_rows::service(to, n, x);
         i += 1;
     }
     n
@@ -126,10 +126,10 @@ fn tell_services(tables: &[u64; 1056], count: usize, to: &mut [u8], at: usize) -
 
 // At most all places are in use.
 fn known_in(tables: &[u64; 1056], count: usize) -> Characteristics {
-    if count < places::MAX_CHARACTERISTICS {
+    if count < state_places::MAX_CHARACTERISTICS {
         return words_characteristic::characteristics_of(tables, count);
     }
-    words_characteristic::characteristics_of(tables, places::MAX_CHARACTERISTICS)
+    words_characteristic::characteristics_of(tables, state_places::MAX_CHARACTERISTICS)
 }
 
 fn tell_characteristics(
@@ -140,12 +140,12 @@ fn tell_characteristics(
 ) -> usize {
     let mut n = line::named(to, at, b"characteristics", count as u64);
     let mut i = 0;
-    while i < places::MAX_CHARACTERISTICS {
+    while i < state_places::MAX_CHARACTERISTICS {
         if count <= i {
             break;
         }
         let x = kept[i];
-        n = rows::characteristic(to, n, x);
+        n = tool_rows::characteristic(to, n, x);
         i += 1;
     }
     n
@@ -160,12 +160,12 @@ fn tell_notifications(
 ) -> usize {
     let mut n = line::named(to, at, b"notifications", count as u64);
     let mut i = 0;
-    while i < places::MAX_NOTIFICATIONS {
+    while i < state_places::MAX_NOTIFICATIONS {
         if count <= i {
             break;
         }
         let x = words_notification::notification_at(tables, i);
-        n = rows::notification(to, n, x, store, places::notification_at(i));
+        n = tool_rows::notification(to, n, x, store, state_places::notification_at(i));
         i += 1;
     }
     n
@@ -185,7 +185,7 @@ fn tell_running(
     if !r.active {
         return line::word(to, n, b"none");
     }
-    let m = rows::running(to, n, r, store);
+    let m = tool_rows::running(to, n, r, store);
     tell_keys(tables, keys, to, m)
 }
 

@@ -6,8 +6,8 @@ mod tell;
 
 use play::Going;
 use state_core::Core;
-use traces::record;
-use traces::record::Next;
+use tool_traces::record;
+use tool_traces::record::Next;
 
 // A line is written out in pieces of at most so many bytes.
 const ROOM: usize = 65_536;
@@ -50,8 +50,8 @@ fn run(tables: &mut [u64; 1056], body: &mut [u8], store: &mut [u8], out: &mut [u
 fn main() {
     let mut tables = [0u64; 1056];
     let mut body = [0u8; record::MOST_BODY];
-    let mut store = [0u8; places::STORE_SIZE];
-    let mut out = [0u8; places::OUTPUT_SIZE];
+    let mut store = [0u8; state_places::STORE_SIZE];
+    let mut out = [0u8; state_places::OUTPUT_SIZE];
     let mut to = [0u8; ROOM];
     run(&mut tables, &mut body, &mut store, &mut out, &mut to);
 }

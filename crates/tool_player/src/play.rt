@@ -6,8 +6,8 @@ use state::LinkRequest;
 use state::Sent;
 use state_core::Core;
 use time::Micros;
-use traces::record;
-use traces::steps;
+use tool_traces::record;
+use tool_traces::steps;
 
 const HANDLE_AT: usize = 8;
 
@@ -59,7 +59,7 @@ fn is_set(body: &[u8], at: usize) -> bool {
 }
 
 fn at_of(body: &[u8]) -> Micros {
-    Micros(numbers::le64(body, 0))
+    Micros(bytes_numbers::le64(body, 0))
 }
 
 // ---- the calls that only read
@@ -82,7 +82,7 @@ fn read(
             tell::handle(to, state_readers::connected_handle(core, tables, store))
         }
         record::RESULT => {
-            let index = numbers::le32(body, 0);
+            let index = bytes_numbers::le32(body, 0);
             let given = state_readers::result(core, tables, store, index);
             tell::given(to, index, given, store)
         }
@@ -125,7 +125,7 @@ fn connect(
     store: &mut [u8],
     out: &mut [u8],
 ) -> Answer {
-    let handle = numbers::le16(body, HANDLE_AT);
+    let handle = bytes_numbers::le16(body, HANDLE_AT);
     script_events::on_connected(core, tables, store, out, handle, at_of(body))
 }
 

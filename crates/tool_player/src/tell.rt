@@ -1,13 +1,13 @@
 // The line of each record (docs/TRACE.md, 'Lines'); whether it could be written.
-use lines::line;
-use matching::AdvAction;
-use readers::Given;
-use readers::Handle;
-use readers::Timer;
+use radio_match::AdvAction;
 use state::Sent;
 use state_core::Core;
-use traces::record;
-use traces::record::Bad;
+use state_readers::Given;
+use state_readers::Handle;
+use state_readers::Timer;
+use tool_lines::line;
+use tool_traces::record;
+use tool_traces::record::Bad;
 
 // What can't be read.
 pub fn unread(to: &mut [u8], why: Bad) -> bool {
@@ -23,19 +23,19 @@ pub fn unread(to: &mut [u8], why: Bad) -> bool {
 
 pub fn timer(to: &mut [u8], t: Timer) -> bool {
     let n = line::text(to, 0, b"timer_us");
-    let m = rows::timer(to, n, t);
+    let m = tool_rows::timer(to, n, t);
     line::end(to, m)
 }
 
 pub fn handle(to: &mut [u8], h: Handle) -> bool {
     let n = line::text(to, 0, b"connected_handle");
-    let m = rows::handle(to, n, h);
+    let m = tool_rows::handle(to, n, h);
     line::end(to, m)
 }
 
 pub fn given(to: &mut [u8], index: u32, g: Given, store: &[u8]) -> bool {
     let n = line::text(to, 0, b"result");
-    let m = rows::given(to, n, index, g, store);
+    let m = tool_rows::given(to, n, index, g, store);
     line::end(to, m)
 }
 
@@ -58,13 +58,13 @@ fn sending(to: &mut [u8], name: &[u8], why: u8, sent: Sent, out: &[u8]) -> bool 
         return refusal(to, name, why);
     }
     let n = line::text(to, 0, name);
-    let m = rows::sent(to, n, sent, out);
+    let m = tool_rows::sent(to, n, sent, out);
     line::end(to, m)
 }
 
 pub fn advertised(to: &mut [u8], why: u8, a: AdvAction) -> bool {
     let n = line::text(to, 0, b"advertising");
-    let m = rows::advertised(to, n, why, a);
+    let m = tool_rows::advertised(to, n, why, a);
     line::end(to, m)
 }
 

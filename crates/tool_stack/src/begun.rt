@@ -1,4 +1,5 @@
 // What the calls begin with.
+use script_rules::Batch;
 use state::Running;
 use state::Step;
 use state_core::Core;
@@ -7,7 +8,6 @@ use tool_bench::begin;
 use tool_bench::play;
 use tool_bench::row;
 use tool_bench::row::Row;
-use waiting::Batch;
 
 // How many bytes each wait looks for.
 const SOUGHT: usize = 4;

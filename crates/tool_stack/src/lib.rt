@@ -2,9 +2,9 @@
 // on the stack that is measured; the core, and a batch of steps, are made here. Each answers what its call refuses.
 mod begun;
 
-use readers::Given;
-use readers::Handle;
-use readers::Timer;
+use state_readers::Given;
+use state_readers::Handle;
+use state_readers::Timer;
 use time::Micros;
 use tool_bench::begin;
 use tool_bench::hear;

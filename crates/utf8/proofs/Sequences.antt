@@ -9,8 +9,8 @@ use lib.ListN.{length, drop, getD, drop-of-length-le, List·getD-eq-default, len
 use lib.Seq.{drop-cons, drop-drop}
 use lib.Dec.{ltb, leb, eqb, leb·zero}
 use borrow.Author.Tests.{ltb-true, ltb-false, lt-leb, le-leb, eq-eqb, ne-eqb, eqb-true, eqb-false}
-use Rattle.base.specs.Choice.{pick, within}
-use Rattle.base.proofs.TestLaws.{both}
+use Rattle.bytes.specs.Choice.{pick, within}
+use Rattle.bytes.proofs.TestLaws.{both}
 use Rattle.utf8.specs.Utf8.{Range, ones, twos, threes, fours, begins, some, sequence, runs, utf8}
 
 -- ---- by index: what stands at a place past the end is 256, which no row has

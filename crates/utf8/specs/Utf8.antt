@@ -4,7 +4,7 @@ use mathlib.Core.List.{List, [], _∷_}
 use mathlib.Core.Bool.{Bool, true, false, _&&_, _||_}
 use lib.ListN.{length, drop}
 use lib.Dec.{eqb}
-use Rattle.base.specs.Choice.{pick, within}
+use Rattle.bytes.specs.Choice.{pick, within}
 
 -- the bytes that may stand at a place of a sequence, both ends included
 pub record Range : Type 0 where

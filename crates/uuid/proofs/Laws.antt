@@ -9,10 +9,10 @@ use lib.ListN.{length, drop, getD, set, replicate}
 use lib.Seq.{drop-cons, take-all, paste, paste-suc}
 use lib.Dec.{eqb}
 use borrow.Author.Tests.{eq-eqb, ne-eqb, eqb-true, eqb-false}
-use Rattle.base.specs.Bytes.{le, leBytes, leAt}
-use Rattle.base.proofs.ByteLaws.{leAt-in, leAt-off, leAt-split, leBytes-split, length-leBytes}
+use Rattle.bytes.specs.Bytes.{le, leBytes, leAt}
+use Rattle.bytes.proofs.ByteLaws.{leAt-in, leAt-off, leAt-split, leBytes-split, length-leBytes}
 use Rattle.uuid.specs.Value.{num, ofNum, short, shortOf, Short, attUuid, attBytes, attOf}
-use Rattle.uuid.specs.Laws.{halves, att-short, att-long}
+use Rattle.uuid.specs.ValueLaws.{halves, att-short, att-long}
 use Rattle.uuid.specs.declared.Uuid.{Uuid}
 use Rattle.uuid.specs.declared.Read.the-variants.{Is, Nothing}
 

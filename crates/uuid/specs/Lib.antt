@@ -1,3 +1,3 @@
 pub mod Value
-pub mod Laws
+pub mod ValueLaws
 pub mod Theorems

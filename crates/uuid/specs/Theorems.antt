@@ -6,10 +6,10 @@ use mathlib.Core.List.{List}
 use mathlib.Core.Logic.{⊎-elim}
 use native.Mathlib.Omega.{arith}
 use lib.ListN.{length, getD}
-use Rattle.base.specs.Bytes.{le, leBytes}
-use Rattle.base.proofs.ByteLaws.{length-leBytes, le-leBytes, leBytes-le, le-small}
+use Rattle.bytes.specs.Bytes.{le, leBytes}
+use Rattle.bytes.proofs.ByteLaws.{length-leBytes, le-leBytes, leBytes-le, le-small}
 use Rattle.uuid.specs.Value.{num, ofNum, short, shortOf, Short, attUuid, attBytes}
-use Rattle.uuid.specs.Laws.{short-or-not, att-short, att-long, num-of, of-num, num-fits}
+use Rattle.uuid.specs.ValueLaws.{short-or-not, att-short, att-long, num-of, of-num, num-fits}
 use Rattle.uuid.specs.declared.Uuid.{Uuid}
 use Rattle.uuid.specs.declared.Read.the-variants.{Is}
 

@@ -5,8 +5,8 @@ use mathlib.Core.List.{List, _++_}
 use mathlib.Core.Bool.{Bool, _&&_}
 use lib.ListN.{length, replicate}
 use lib.Dec.{eqb, ltb}
-use Rattle.base.specs.Choice.{pick}
-use Rattle.base.specs.Bytes.{le, leBytes}
+use Rattle.bytes.specs.Choice.{pick}
+use Rattle.bytes.specs.Bytes.{le, leBytes}
 use Rattle.uuid.specs.declared.Uuid.{Uuid}
 use Rattle.uuid.specs.declared.Read.{Read}
 use Rattle.uuid.specs.declared.Read.the-variants.{Is, Nothing}

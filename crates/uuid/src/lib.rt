@@ -3,7 +3,7 @@ ghost use mathlib.Core.Path.{_≡_};
 ghost use Prim.Native.Nat.{_+_, _≤_};
 ghost use lib.Dec.{eqb};
 ghost use lib.Seq.{paste};
-ghost use Rattle.base.specs.Bytes.{leAt, leBytes};
+ghost use Rattle.bytes.specs.Bytes.{leAt, leBytes};
 ghost use Rattle.uuid.specs.Value.{num, ofNum, shortOf, attUuid, attOf};
 
 // A UUID of 128 bits as two numbers: its value is low + 2^64 * high.
@@ -67,8 +67,8 @@ impl Uuid {
         if LONG_LEN <= s.len() {
             if at <= s.len() - LONG_LEN {
                 return Self {
-                    low: numbers::le64(s, at),
-                    high: numbers::le64(s, at + HALF_LEN),
+                    low: bytes_numbers::le64(s, at),
+                    high: bytes_numbers::le64(s, at + HALF_LEN),
                 };
             }
         }
@@ -89,7 +89,7 @@ impl Uuid {
         ensures { λ r. ⌜ r ≡ attUuid (now (bytes .entry)) ⌝ }
     {
         if bytes.len() == SHORT_LEN {
-            return Read::Is(Uuid::from_u16(numbers::le16(bytes, 0)));
+            return Read::Is(Uuid::from_u16(bytes_numbers::le16(bytes, 0)));
         }
         if bytes.len() == LONG_LEN {
             return Read::Is(Uuid::from_128(bytes, 0));

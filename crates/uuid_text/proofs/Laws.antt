@@ -11,9 +11,9 @@ use lib.ListN.{length, drop, take, getD, set, length-append, drop-of-length-le}
 use lib.Seq.{drop-cons, take-all, take-suc-set, append-snoc, length-take-le, slice, slice-cons, slice-empty, length-slice}
 use lib.Dec.{leb, ltb, eqb}
 use borrow.Author.Tests.{lt-ltb, le-ltb, ltb-true, leb-true, leb-false, le-leb, lt-leb, eq-eqb, ne-eqb}
-use Rattle.base.specs.Choice.{pick, within}
+use Rattle.bytes.specs.Choice.{pick, within}
 use Rattle.uuid.specs.Value.{shortOf}
-use Rattle.uuid.specs.Laws.{halves}
+use Rattle.uuid.specs.ValueLaws.{halves}
 use Rattle.uuid.specs.declared.Uuid.{Uuid}
 use Rattle.uuid.specs.declared.Read.the-variants.{Is, Nothing}
 use Rattle.uuid_text.specs.Text.{digitOf, allDigits, valueOf, unsigned, isNumber, numberOf, pairs, allNumbers, bytesOf, shortUuid, longUuid, plain, parseUuid}

@@ -3,7 +3,7 @@ use Prim.Native.Nat.{ℕ, _≤_, _<_}
 use mathlib.Core.Path.{_≡_}
 use mathlib.Core.List.{List}
 use lib.ListN.{length, take}
-use Rattle.base.specs.Choice.{pick}
+use Rattle.bytes.specs.Choice.{pick}
 use Rattle.uuid_text.specs.Text.{isNumber, numberOf, plain}
 
 -- the number that bytes are, or one that 4 digits can't be

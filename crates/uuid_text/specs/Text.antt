@@ -6,7 +6,7 @@ use mathlib.Core.List.{List, [], _∷_}
 use mathlib.Core.Bool.{Bool, true, _&&_}
 use lib.ListN.{length}
 use lib.Dec.{eqb, ltb}
-use Rattle.base.specs.Choice.{pick, within}
+use Rattle.bytes.specs.Choice.{pick, within}
 use Rattle.uuid.specs.Value.{shortOf, ofNum}
 use Rattle.uuid.specs.declared.Read.{Read}
 use Rattle.uuid.specs.declared.Read.the-variants.{Is, Nothing}

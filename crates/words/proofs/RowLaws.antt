@@ -1,6 +1,6 @@
 -- A table reads the same where its words are the same; what a place reads; how long each table is.
 use Prim.Native.Nat.{ℕ, _+_, _<_, _≤_}
-use mathlib.Core.Path.{_≡_, refl, sym, ap, _∙_}
+use mathlib.Core.Path.{_≡_, refl, ap, _∙_}
 use mathlib.Core.Bool.{Bool, true, false}
 use mathlib.Core.List.{List}
 use native.Mathlib.Omega.{arith}
@@ -8,12 +8,10 @@ use lib.ListN.{length, getD, set, length-set}
 use lib.Dec.{eqb}
 use borrow.Author.Tests.{eqb-true, eqb-false}
 use lib.Seq.{getD-set-same, getD-set-other}
-use Rattle.services.specs.Service.{zero-service}
-use Rattle.characteristics.specs.Characteristic.{zero-characteristic}
+use Rattle.gatt_services.specs.Service.{zero-service}
+use Rattle.gatt_characteristics.specs.Characteristic.{zero-characteristic}
 use Rattle.state.specs.Fresh.{noQueued, noResult, noNotification}
-use Rattle.state.specs.declared.Heard.{Heard}
-use Rattle.words.specs.Table.{table}
-use Rattle.words.specs.Words.{flatOf, queuedOf, resultOf, serviceOf, characteristicOf, notificationOf, channelOf, pduOf, dataLenOf, responseOf}
+use Rattle.words.specs.Words.{flatOf, queuedOf, resultOf, serviceOf, characteristicOf, notificationOf, channelOf, pduOf, dataLenOf, responseOf, timeOf}
 use Rattle.words.specs.Tables.{word, stepsIn, resultsIn, servicesIn, characteristicsIn, notificationsIn, whoIn, heardIn, keysIn}
 use Rattle.words.specs.Rows.{Same, Lowered}
 use Rattle.words.proofs.TableLaws.{table-length, table-at, table-same}
@@ -57,7 +55,7 @@ module _ (w v : List ℕ) where
   unfolding heardIn
   heard-same h =
       rw (
-        table-same 64 (λ i. word v 800 i) (λ i. word w 800 i) (λ k b. h (800 + k) (omega arith) (omega arith)),
+        table-same 64 (λ i. timeOf (word v 800 i)) (λ i. timeOf (word w 800 i)) (λ k b. ap timeOf (h (800 + k) (omega arith) (omega arith))),
         table-same 64 (λ i. channelOf (word v 864 i)) (λ i. channelOf (word w 864 i)) (λ k b. ap channelOf (h (864 + k) (omega arith) (omega arith))),
         table-same 64 (λ i. pduOf (word v 864 i)) (λ i. pduOf (word w 864 i)) (λ k b. ap pduOf (h (864 + k) (omega arith) (omega arith))),
         table-same 64 (λ i. dataLenOf (word v 864 i)) (λ i. dataLenOf (word w 864 i)) (λ k b. ap dataLenOf (h (864 + k) (omega arith) (omega arith))),

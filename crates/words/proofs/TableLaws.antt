@@ -8,8 +8,8 @@ use lib.ListN.{length, getD, set, length-set}
 use lib.Dec.{eqb, ltb}
 use borrow.Author.Tests.{eqb-true, eqb-false, ltb-true, ltb-false}
 use lib.Seq.{ext-getD, getD-set-same, getD-set-other}
-use Rattle.queues.specs.Queue.{shifted}
-use Rattle.queues.specs.QueueLaws.{shifted-zero, shifted-suc, length-shifted}
+use Rattle.lists.specs.Queue.{shifted}
+use Rattle.lists.proofs.QueueLaws.{shifted-zero, shifted-suc, length-shifted}
 use Rattle.words.specs.Table.{tableFrom, table}
 
 module _ {A : Type 0} where

@@ -2,14 +2,14 @@
 use Prim.Native.Nat.{ℕ, _+_}
 use mathlib.Core.List.{List}
 use lib.ListN.{getD}
-use Rattle.services.specs.declared.Service.{Service}
-use Rattle.characteristics.specs.declared.Characteristic.{Characteristic}
-use Rattle.waits.specs.declared.Notification.{Notification}
+use Rattle.gatt_services.specs.declared.Service.{Service}
+use Rattle.gatt_characteristics.specs.declared.Characteristic.{Characteristic}
+use Rattle.notifications.specs.declared.Notification.{Notification}
 use Rattle.state.specs.declared.Heard.{Heard}
 use Rattle.state.specs.declared.Queued.{Queued}
 use Rattle.state.specs.declared.StepResult.{StepResult}
 use Rattle.words.specs.Table.{table}
-use Rattle.words.specs.Words.{flatOf, queuedOf, resultOf, serviceOf, characteristicOf, notificationOf, channelOf, pduOf, dataLenOf, responseOf}
+use Rattle.words.specs.Words.{flatOf, queuedOf, resultOf, serviceOf, characteristicOf, notificationOf, channelOf, pduOf, dataLenOf, responseOf, timeOf}
 
 abbrev pub tablesSize : ℕ
 tablesSize = 1056
@@ -39,7 +39,7 @@ whoIn w = table 64 (λ i. word w 736 i)
 unfoldable pub heardIn : List ℕ → Heard
 heardIn w =
     record {
-      at = table 64 (λ i. word w 800 i);
+      at = table 64 (λ i. timeOf (word w 800 i));
       channel = table 64 (λ i. channelOf (word w 864 i));
       pdu = table 64 (λ i. pduOf (word w 864 i));
       len = table 64 (λ i. dataLenOf (word w 864 i));

@@ -2,15 +2,16 @@
 use Prim.Native.Nat.{ℕ, _/_, _%_}
 use mathlib.Core.Bool.{Bool, _||_}
 use lib.Dec.{eqb}
-use Rattle.base.specs.Choice.{pick}
+use Rattle.time.specs.declared.Micros.{Micros}
+use Rattle.bytes.specs.Choice.{pick}
 use Rattle.uuid.specs.declared.Uuid.{Uuid}
-use Rattle.reports.specs.Key.{addressOf}
-use Rattle.kinds.specs.Kinds.{scan, connect, exchangeMtu, discoverServices, discoverCharacteristics, subscribe, write, read, waitNotification, wait, disconnect, capture}
-use Rattle.services.specs.declared.Service.{Service}
-use Rattle.characteristics.specs.declared.Characteristic.{Characteristic}
-use Rattle.characteristics.specs.declared.Cccd.{Cccd}
-use Rattle.characteristics.specs.declared.Cccd.the-variants as cccd
-use Rattle.waits.specs.declared.Notification.{Notification}
+use Rattle.adv_reports.specs.Key.{addressOf}
+use Rattle.state_kinds.specs.Kinds.{scan, connect, exchangeMtu, discoverServices, discoverCharacteristics, subscribe, write, read, waitNotification, wait, disconnect, capture}
+use Rattle.gatt_services.specs.declared.Service.{Service}
+use Rattle.gatt_characteristics.specs.declared.Characteristic.{Characteristic}
+use Rattle.gatt_characteristics.specs.declared.Cccd.{Cccd}
+use Rattle.gatt_characteristics.specs.declared.Cccd.the-variants as cccd
+use Rattle.notifications.specs.declared.Notification.{Notification}
 use Rattle.state.specs.Kept.{noResponse}
 use Rattle.state.specs.declared.Queued.{Queued}
 use Rattle.state.specs.declared.StepResult.{StepResult}
@@ -98,8 +99,12 @@ unfoldable pub statusOf : ℕ → ℕ → StepStatus
 statusOf n e =
     pick (eqb n 0) Ok (pick (eqb n 1) Timeout (pick (eqb n 2) NotConnected (pick (eqb n 3) NotFound (pick (eqb n 4) (AttError e) (pick (eqb n 5) TooLong (pick (eqb n 6) Disconnected TableFull))))))
 
+-- a word that is a time
+abbrev pub timeOf : ℕ → Micros
+timeOf t = record { 0 = t }
+
 unfoldable pub resultOf : ℕ → ℕ → StepResult
-resultOf t x = record { index = x % two32; at = record { 0 = t }; status = statusOf (byteAt two32 x) (byteAt 1099511627776 x); len = x / two56 }
+resultOf t x = record { index = x % two32; at = timeOf t; status = statusOf (byteAt two32 x) (byteAt 1099511627776 x); len = x / two56 }
 
 -- ---- a service: UUID | start 16 bits, end 16
 
@@ -118,7 +123,7 @@ characteristicOf low high x =
 -- ---- a notification: its time | handle 16 bits, indication 8, 32 unused, length 8
 
 unfoldable pub notificationOf : ℕ → ℕ → Notification
-notificationOf t x = record { at = record { 0 = t }; handle = x % two16; len = x / two56; indication = bitAt two16 x }
+notificationOf t x = record { at = timeOf t; handle = x % two16; len = x / two56; indication = bitAt two16 x }
 
 -- ---- a report: the advertiser | its time | channel 8 bits, PDU type 8, length 5 of 8, length of the scan response 5 of 8, whether there is none 8.
 -- Lengths of 5 bits are at most 31: no word says one that fit refuses.

@@ -4,17 +4,17 @@ use mathlib.Core.Path.{_≡_, ap, _∙_}
 use mathlib.Core.List.{List}
 use native.Mathlib.Omega.{arith}
 use lib.ListN.{length, take}
-use Rattle.queues.specs.Queue.{onto}
-use Rattle.entries.specs.Taken.{Have, taken}
-use Rattle.entries.proofs.TableLaws.{take-onto}
-use Rattle.characteristics.specs.Characteristic.{known, Rising, more, declarationOf, characteristicsTaken}
-use Rattle.characteristics.specs.declared.Characteristic.{Characteristic}
-use Rattle.characteristics.specs.declared.Characteristics.{Characteristics}
-use Rattle.characteristics.specs.declared.Found.{Found}
-use Rattle.characteristics.proofs.Keeps.{taken-count}
-use Rattle.descriptors.specs.Named.{givenAll, descriptorsNamed}
-use Rattle.descriptors.specs.declared.Named.{Named}
-use Rattle.descriptors.proofs.Keeps.{named-count}
+use Rattle.lists.specs.Queue.{onto}
+use Rattle.lists.specs.Taken.{Have, taken}
+use Rattle.lists.proofs.TableLaws.{take-onto}
+use Rattle.gatt_characteristics.specs.Characteristic.{known, Rising, more, declarationOf, characteristicsTaken}
+use Rattle.gatt_characteristics.specs.declared.Characteristic.{Characteristic}
+use Rattle.gatt_characteristics.specs.declared.Characteristics.{Characteristics}
+use Rattle.gatt_characteristics.specs.declared.Found.{Found}
+use Rattle.gatt_characteristics.proofs.Keeps.{taken-count}
+use Rattle.gatt_descriptors.specs.Named.{givenAll, descriptorsNamed}
+use Rattle.gatt_descriptors.specs.declared.Named.{Named}
+use Rattle.gatt_descriptors.proofs.Keeps.{named-count}
 use Rattle.words.specs.Tables.{characteristicsIn, tables, withCharacteristics}
 use Rattle.words.proofs.RowLaws.{length-characteristics}
 use Rattle.words_characteristic.specs.Parts.{inTable}

@@ -8,14 +8,14 @@ use native.Mathlib.Omega.{arith}
 use lib.ListN.{length, getD, set, take, drop, length-append}
 use lib.Seq.{length-take-le, take-suc, take-suc-set}
 use lib.Dec.{eqb, leb}
-use Rattle.base.specs.Choice.{pick}
+use Rattle.bytes.specs.Choice.{pick}
 use Rattle.uuid.specs.Value.{num}
 use Rattle.uuid.specs.declared.Uuid.{Uuid}
-use Rattle.queues.specs.Queue.{onto}
-use Rattle.entries.proofs.TableLaws.{here, past, first-pass, first-hit, first-end, onto-onto, set-onto, take-onto, length-onto}
-use Rattle.characteristics.specs.Characteristic.{zero-characteristic, characteristicWith, upFrom}
-use Rattle.characteristics.specs.declared.Characteristic.{Characteristic}
-use Rattle.characteristics.specs.declared.Which.the-variants.{At, Nothing}
+use Rattle.lists.specs.Queue.{onto}
+use Rattle.lists.proofs.TableLaws.{here, past, first-pass, first-hit, first-end, onto-onto, set-onto, take-onto, length-onto}
+use Rattle.gatt_characteristics.specs.Characteristic.{zero-characteristic, characteristicWith, upFrom}
+use Rattle.gatt_characteristics.specs.declared.Characteristic.{Characteristic}
+use Rattle.gatt_characteristics.specs.declared.Which.the-variants.{At, Nothing}
 use Rattle.words.specs.Words.{two48, characteristicOf}
 use Rattle.words.specs.Tables.{Tables, word, characteristicsIn, tables, withCharacteristics}
 use Rattle.words.proofs.RowLaws.{characteristic-at, length-characteristics}
@@ -34,9 +34,6 @@ declaration-at w i h = ap (λ (x : Characteristic). x .declaration) (characteris
 
 module _ (w : List ℕ) (n i : ℕ) (u : Uuid) (k : n ≤ 64)
     (e : characteristicWith u (take n (characteristicsIn w)) ≡ characteristicWith u (drop i (take n (characteristicsIn w)))) where
-  passes : Characteristic → Bool
-  passes x = eqb (num (x .uuid)) (num u)
-
   pub find-end : n ≤ i → Nothing ≡ characteristicWith u (take n (characteristicsIn w))
   find-end h = first-end _ _ _ zero-characteristic (characteristicsIn w) n i (omega (arith, length-characteristics w)) e h
 

@@ -6,9 +6,9 @@ use mathlib.Core.List.{List}
 use native.Mathlib.Omega.{arith}
 use lib.ListN.{length, getD, set, length-set}
 use lib.Seq.{getD-set-same, getD-set-other}
-use Rattle.characteristics.specs.declared.Cccd.{Cccd}
-use Rattle.characteristics.specs.declared.Cccd.the-variants.{Unknown, At}
-use Rattle.characteristics.specs.declared.Characteristic.{Characteristic}
+use Rattle.gatt_characteristics.specs.declared.Cccd.{Cccd}
+use Rattle.gatt_characteristics.specs.declared.Cccd.the-variants.{Unknown, At}
+use Rattle.gatt_characteristics.specs.declared.Characteristic.{Characteristic}
 use Rattle.words.specs.Words.{two16, two32, two48, halfAt, bitAt, cccdOf, characteristicOf}
 use Rattle.words.specs.Tables.{word, characteristicsIn, tables, withCharacteristics}
 use Rattle.words.specs.Rows.{Same}

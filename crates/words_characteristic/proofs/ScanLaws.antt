@@ -7,13 +7,13 @@ use native.Mathlib.Omega.{arith}
 use lib.ListN.{length, take, drop, getD}
 use lib.Dec.{leb}
 use borrow.Author.Tests.{le-leb, lt-leb}
-use Rattle.base.specs.Choice.{pick}
-use Rattle.entries.proofs.TableLaws.{here, past}
-use Rattle.characteristics.specs.Characteristic.{zero-characteristic}
-use Rattle.characteristics.specs.declared.Characteristic.{Characteristic}
-use Rattle.descriptors.specs.Range.{declaredIn, stop, rangeOr, firstRange}
-use Rattle.descriptors.specs.declared.Range.{Range}
-use Rattle.descriptors.specs.declared.Range.the-variants.{Nothing}
+use Rattle.bytes.specs.Choice.{pick}
+use Rattle.lists.proofs.TableLaws.{here, past}
+use Rattle.gatt_characteristics.specs.Characteristic.{zero-characteristic}
+use Rattle.gatt_characteristics.specs.declared.Characteristic.{Characteristic}
+use Rattle.gatt_descriptors.specs.Range.{declaredIn, stop, rangeOr, firstRange}
+use Rattle.gatt_descriptors.specs.declared.Range.{Range}
+use Rattle.gatt_descriptors.specs.declared.Range.the-variants.{Nothing}
 use Rattle.words_characteristic.specs.Parts.{scannedOn}
 use Rattle.words_characteristic.specs.declared.Scan.{Scan}
 

@@ -2,15 +2,15 @@
 use Prim.Native.Nat.{ℕ, _-_}
 use mathlib.Core.List.{List}
 use lib.Dec.{leb}
-use Rattle.base.specs.Choice.{pick}
-use Rattle.entries.specs.Cut.{entries, part}
-use Rattle.characteristics.specs.Characteristic.{characteristicsTaken}
-use Rattle.characteristics.specs.declared.Characteristic.{Characteristic}
-use Rattle.characteristics.specs.declared.Characteristics.{Characteristics}
-use Rattle.characteristics.specs.declared.Found.{Found}
-use Rattle.descriptors.specs.Range.{rangeOr}
-use Rattle.descriptors.specs.Named.{descriptorsNamed}
-use Rattle.descriptors.specs.declared.Named.{Named}
+use Rattle.bytes.specs.Choice.{pick}
+use Rattle.lists.specs.Cut.{entries, part}
+use Rattle.gatt_characteristics.specs.Characteristic.{characteristicsTaken}
+use Rattle.gatt_characteristics.specs.declared.Characteristic.{Characteristic}
+use Rattle.gatt_characteristics.specs.declared.Characteristics.{Characteristics}
+use Rattle.gatt_characteristics.specs.declared.Found.{Found}
+use Rattle.gatt_descriptors.specs.Range.{rangeOr}
+use Rattle.gatt_descriptors.specs.Named.{descriptorsNamed}
+use Rattle.gatt_descriptors.specs.declared.Named.{Named}
 use Rattle.words.specs.Tables.{characteristicsIn}
 use Rattle.words_characteristic.specs.declared.Scan.{Scan}
 

@@ -2,19 +2,19 @@
 ghost use mathlib.Core.Path.{_≡_};
 ghost use Prim.Native.Nat.{_+_, _/_, _%_, _≤_, _<_};
 ghost use lib.ListN.{length, getD, set, take};
-ghost use Rattle.queues.specs.Queue.{onto};
-ghost use Rattle.places.specs.Sizes.{mostCharacteristics};
-ghost use Rattle.characteristics.specs.Characteristic.{known, zero-characteristic, Rising, rises, characteristicWith};
-ghost use Rattle.descriptors.specs.Range.{rangeOr, descriptorRange};
+ghost use Rattle.lists.specs.Queue.{onto};
+ghost use Rattle.state_places.specs.Sizes.{mostCharacteristics};
+ghost use Rattle.gatt_characteristics.specs.Characteristic.{known, zero-characteristic, Rising, rises, characteristicWith};
+ghost use Rattle.gatt_descriptors.specs.Range.{rangeOr, descriptorRange};
 ghost use Rattle.words.specs.Words.{two16, two32, two48, halfAt, bitAt, cccdOf, characteristicOf};
 ghost use Rattle.words.specs.Tables.{characteristicsIn};
 ghost use Rattle.words.specs.Tables as all;
 ghost use Rattle.words_characteristic.specs.Parts.{inTable, takenIn, namedIn, scannedOn};
-use characteristics::Cccd;
-use characteristics::Characteristic;
-use characteristics::Characteristics;
-use characteristics::Which;
-use descriptors::Range;
+use gatt_characteristics::Cccd;
+use gatt_characteristics::Characteristic;
+use gatt_characteristics::Characteristics;
+use gatt_characteristics::Which;
+use gatt_descriptors::Range;
 use uuid::Uuid;
 use words::CHARACTERISTIC;
 use words::CHARACTERISTIC_HIGH;
@@ -46,9 +46,6 @@ const DECLARATION: u64 = 0x1_0000_0000_0000;
 const BYTE: u64 = 0x100;
 
 const HALF: u64 = 0x1_0000;
-
-// The handle that no other is after.
-const LAST_HANDLE: u16 = 0xFFFF;
 
 // ---- the third word
 
@@ -204,7 +201,7 @@ pub fn is_rising(tables: &[u64; 1056], count: usize) -> bool
 fn range_or(from: u16, value: u16, to: u16, other: Range) -> Range
     ensures { λ r. ⌜ r ≡ rangeOr from value to other ⌝ }
 {
-    if value < LAST_HANDLE {
+    if value < att_pdu::LAST_HANDLE {
         let after = value + 1;
         if after < from {
             if from <= to {
@@ -327,7 +324,7 @@ pub fn take_characteristics(
         × (r .full ≡ takenIn (now (tables .entry)) count (now (store .entry)) from end size none .full) ⌝ }
 {
     let t = characteristics_of(tables, count);
-    let f = characteristics::take_characteristics(t, store, from, end, size, none);
+    let f = gatt_characteristics::take_characteristics(t, store, from, end, size, none);
     let known = f.table;
     put_characteristics(tables, known);
     Heard {
@@ -355,7 +352,7 @@ pub fn name_descriptors(
         × (r ≡ namedIn (now (tables .entry)) count (now (store .entry)) from end size first .«next») ⌝ }
 {
     let t = characteristics_of(tables, count);
-    let n = descriptors::name_descriptors(t, store, from, end, size, first);
+    let n = gatt_descriptors::name_descriptors(t, store, from, end, size, first);
     let known = n.table;
     put_characteristics(tables, known);
     n.next

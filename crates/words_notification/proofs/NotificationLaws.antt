@@ -8,15 +8,15 @@ use lib.ListN.{length, take, drop, getD, set, length-set}
 use lib.Seq.{getD-set-same, getD-set-other}
 use lib.Dec.{eqb, leb, ltb}
 use borrow.Author.Tests.{le-leb, lt-leb, ltb-true, ltb-false}
-use Rattle.base.specs.Choice.{pick}
-use Rattle.places.specs.Sizes.{valueSize}
-use Rattle.queues.specs.Queue.{all, shifted}
-use Rattle.queues.specs.ScanLaws.{rest-cons, rest-nil}
+use Rattle.bytes.specs.Choice.{pick}
+use Rattle.state_places.specs.Sizes.{valueSize}
+use Rattle.lists.specs.Queue.{all, shifted}
+use Rattle.lists.proofs.ScanLaws.{rest-cons, rest-nil}
 use Rattle.state.specs.Fresh.{noNotification}
-use Rattle.waits.specs.declared.Notification.{Notification}
-use Rattle.waits.specs.declared.Notifications.{Notifications}
-use Rattle.waits.specs.Kept.{valuesFit, keeping}
-use Rattle.waits.proofs.KeepLaws.{keeping-room, keeping-full}
+use Rattle.notifications.specs.declared.Notification.{Notification}
+use Rattle.notifications.specs.declared.Notifications.{Notifications}
+use Rattle.notifications.specs.Kept.{valuesFit, keeping}
+use Rattle.notifications.proofs.KeepLaws.{keeping-room, keeping-full}
 use Rattle.words.specs.Words.{two16, two56, bitAt, notificationOf}
 use Rattle.words.specs.Tables.{Tables, word, tables, withNotifications, notificationsIn}
 use Rattle.words.specs.Rows.{Same, Lowered}

@@ -5,19 +5,19 @@ use mathlib.Core.Bool.{Bool, true, false, _&&_, _||_}
 use mathlib.Core.List.{List, [], _∷_, _++_}
 use native.Mathlib.Numerals.{add-one}
 use native.Mathlib.Omega.{arith}
-use lib.ListN.{length, take, drop, getD, length-append, length-take, length-drop, drop-of-length-le}
+use lib.ListN.{length, take, drop, getD, length-append, length-drop, drop-of-length-le}
 use lib.Seq.{drop-cons, drop-append-le, take-append-le, drop-at, drop-drop, take-take, take-nil, getD-take, getD-drop, length-take-le}
-use lib.Dec.{eqb, ltb, leb}
+use lib.Dec.{eqb, leb}
 use borrow.Author.Tests.{eq-eqb, ne-eqb, leb-true, leb-false}
-use Rattle.base.specs.Choice.{pick}
-use Rattle.places.specs.Sizes.{valueSize, notificationAt, heldAt}
-use Rattle.queues.specs.Blocks.{Valued, place, bytes}
-use Rattle.queues.specs.BlockLaws.{valued-here, valued-end}
+use Rattle.bytes.specs.Choice.{pick}
+use Rattle.state_places.specs.Sizes.{valueSize, notificationAt, heldAt}
+use Rattle.lists.specs.Blocks.{bytes}
+use Rattle.lists.proofs.BlockLaws.{valued-here, valued-end}
 use Rattle.state.specs.Fresh.{noNotification}
-use Rattle.waits.specs.declared.Notification.{Notification}
-use Rattle.waits.specs.Kept.{part, live, heard, valuesFit}
-use Rattle.waits.specs.Wait.{any, seen, starts, contains}
-use Rattle.waits.proofs.WaitLaws.{fit-at, any-hit, any-pass, any-end}
+use Rattle.notifications.specs.declared.Notification.{Notification}
+use Rattle.notifications.specs.Kept.{part, live, heard, valuesFit}
+use Rattle.notifications.specs.Wait.{any, seen, starts, contains}
+use Rattle.notifications.proofs.WaitLaws.{fit-at, any-hit, any-pass, any-end}
 use Rattle.words.specs.Words.{two16, two56, notificationOf}
 use Rattle.words.specs.Tables.{word, notificationsIn}
 use Rattle.words.proofs.RowLaws.{length-notifications, notification-at}

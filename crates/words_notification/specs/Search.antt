@@ -5,11 +5,11 @@ use mathlib.Core.Bool.{Bool, true}
 use mathlib.Core.List.{List}
 use lib.ListN.{length, drop}
 use lib.Dec.{eqb}
-use Rattle.base.specs.Choice.{pick}
-use Rattle.places.specs.Sizes.{mostNotifications, heldAt}
-use Rattle.queues.specs.Blocks.{bytes}
-use Rattle.waits.specs.Kept.{live, heard, valuesFit}
-use Rattle.waits.specs.Wait.{seen, contains}
+use Rattle.bytes.specs.Choice.{pick}
+use Rattle.state_places.specs.Sizes.{mostNotifications, heldAt}
+use Rattle.lists.specs.Blocks.{bytes}
+use Rattle.notifications.specs.Kept.{live, heard, valuesFit}
+use Rattle.notifications.specs.Wait.{seen, contains}
 use Rattle.words.specs.Words.{two16, two56}
 use Rattle.words.specs.Tables.{word}
 use Rattle.words_notification.specs.Kept.{keptIn}

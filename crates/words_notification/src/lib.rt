@@ -5,25 +5,23 @@ ghost use mathlib.Core.List.{List};
 ghost use Prim.Native.Nat.{ℕ, _+_, _≤_, _<_, _/_, _%_, min};
 ghost use lib.Dec.{eqb};
 ghost use lib.ListN.{length, take, drop, getD, set};
-ghost use Rattle.base.specs.Choice.{pick};
-ghost use Rattle.places.specs.Sizes.{mostNotifications, heldAt};
-ghost use Rattle.queues.specs.Queue.{shifted};
-ghost use Rattle.queues.specs.Blocks.{bytes};
+ghost use Rattle.bytes.specs.Choice.{pick};
+ghost use Rattle.state_places.specs.Sizes.{mostNotifications, heldAt};
+ghost use Rattle.lists.specs.Queue.{shifted};
+ghost use Rattle.lists.specs.Blocks.{bytes};
 ghost use Rattle.state.specs.Fresh.{noNotification};
-ghost use Rattle.waits.specs.Kept.{live, heard, valuesFit, keeping};
-ghost use Rattle.waits.specs.Wait.{any, starts, passes};
+ghost use Rattle.notifications.specs.Kept.{live, heard, valuesFit, keeping};
+ghost use Rattle.notifications.specs.Wait.{any, starts, passes};
 ghost use Rattle.words.specs.Words.{two16, two56, notificationOf};
 ghost use Rattle.words.specs.Tables as all;
 ghost use Rattle.words.specs.Tables.{notificationsIn};
 ghost use Rattle.words_notification.specs.Kept.{keptIn};
 ghost use Rattle.words_notification.specs.Search.{own, joined, stands, Ready};
-use places::MAX_NOTIFICATIONS;
+use notifications::Notification;
+use state_places::MAX_NOTIFICATIONS;
 use time::Micros;
-use waits::Notification;
 use words::NOTIFICATION;
 use words::NOTIFICATION_AT;
-
-const LAST: usize = MAX_NOTIFICATIONS - 1;
 
 // Where a word's fields begin: the handle has the 16 bits below the flag, the length has the top byte.
 const FLAG: u64 = 65_536;
@@ -99,8 +97,8 @@ fn put_notification(tables: &mut [u64; 1056], i: usize, x: Notification)
 fn shift_notifications(tables: &mut [u64; 1056])
     ensures { λ _. ⌜ all.tables (now (tables .exit)) ≡ all.withNotifications (all.tables (now (tables .entry))) (shifted (notificationsIn (now (tables .entry))) 31) ⌝ }
 {
-    words::lower(tables, NOTIFICATION_AT, LAST);
-    words::lower(tables, NOTIFICATION, LAST);
+    words::lower(tables, NOTIFICATION_AT, notifications::LAST);
+    words::lower(tables, NOTIFICATION, notifications::LAST);
 }
 
 // One more, behind count others; where 32 are kept the oldest goes. How many are kept then.
@@ -114,7 +112,7 @@ pub fn keep(tables: &mut [u64; 1056], count: usize, x: Notification) -> usize
         return more;
     }
     shift_notifications(tables);
-    put_notification(tables, LAST, x);
+    put_notification(tables, notifications::LAST, x);
     MAX_NOTIFICATIONS
 }
 
@@ -226,7 +224,7 @@ fn goes_on(
         let word = tables[p];
         let size = own_size(word, handle);
         let n = least(size - o, m - j);
-        let place = places::notification_at(i) + o;
+        let place = state_places::notification_at(i) + o;
         if !are_equal(store, place, at + j, n) {
             return false;
         }
@@ -251,7 +249,7 @@ fn begins_in(
     requires { ⌜ Ready (now tables) count (now store) at m × (i < count) × (tries ≤ own handle (now tables) i) × (tries + m ≤ length (joined handle (now tables) (now store) count i) + 1) ⌝ }
     ensures { λ r. ⌜ stands handle (now (tables .entry)) (now (store .entry)) count i 0 at m ≡ (r || stands handle (now (tables .entry)) (now (store .entry)) count i tries at m) ⌝ }
 {
-    let place = places::notification_at(i);
+    let place = state_places::notification_at(i);
     let b = store[at];
     let mut k = 0;
     while k < tries {

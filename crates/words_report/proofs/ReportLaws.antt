@@ -8,12 +8,12 @@ use lib.ListN.{length, take, drop, getD, set, length-set}
 use lib.Seq.{getD-set-same, getD-set-other}
 use lib.Dec.{eqb}
 use borrow.Author.Tests.{eq-eqb, ne-eqb, eqb-true, eqb-false}
-use Rattle.base.specs.Choice.{pick}
-use Rattle.queues.specs.Queue.{shifted}
-use Rattle.reports.specs.Key.{seek, among}
-use Rattle.reports.specs.KeyLaws.{seek-here, seek-on, seek-end, among-here, among-on, among-end}
+use Rattle.bytes.specs.Choice.{pick}
+use Rattle.lists.specs.Queue.{shifted}
+use Rattle.adv_reports.specs.Key.{seek, among}
+use Rattle.adv_reports.proofs.KeyLaws.{seek-here, seek-on, seek-end, among-here, among-on, among-end}
 use Rattle.state.specs.declared.Heard.{Heard}
-use Rattle.words.specs.Words.{channelOf, pduOf, dataLenOf, responseOf}
+use Rattle.words.specs.Words.{timeOf, channelOf, pduOf, dataLenOf, responseOf}
 use Rattle.words.specs.Table.{table}
 use Rattle.words.specs.Tables.{word, tables, withReports, withKeys, whoIn, heardIn, keysIn}
 use Rattle.words.specs.Rows.{Same, Lowered}
@@ -65,9 +65,9 @@ response-some x e = (rw (ne-eqb (x / 4294967296 % 2) 1 e), omega arith)
 -- ---- what place i reads
 
 module _ (w : List ℕ) (i : ℕ) (h : i < 64) where
-  time-at : getD (heardIn w .at) i 0 ≡ word w 800 i
+  time-at : getD (heardIn w .at) i (timeOf 0) ≡ timeOf (word w 800 i)
   unfolding heardIn
-  time-at = table-at 64 i (λ j. word w 800 j) 0 h
+  time-at = table-at 64 i (λ j. timeOf (word w 800 j)) (timeOf 0) h
 
   channel-at : getD (heardIn w .channel) i 0 ≡ channelOf (word w 864 i)
   unfolding heardIn
@@ -147,10 +147,10 @@ module _ (w : List ℕ) (i who t n : ℕ) (long : length w ≡ 1056) (b : i < 64
       (λ k h m. other (736 + k) (λ e. m (omega arith)) (λ e. omega arith) (λ e. omega arith))
 
   -- one field of the time's row, or of the third row
-  time-there : table 64 (λ k. word with 800 k) ≡ set (table 64 (λ k. word w 800 k)) i t
+  time-there : table 64 (λ k. timeOf (word with 800 k)) ≡ set (table 64 (λ k. timeOf (word w 800 k))) i (timeOf t)
   time-there =
-      table-set 64 (λ k. word with 800 k) (λ k. word w 800 k) i t b second
-      (λ k h m. other (800 + k) (λ e. omega arith) (λ e. m (omega arith)) (λ e. omega arith))
+      table-set 64 (λ k. timeOf (word with 800 k)) (λ k. timeOf (word w 800 k)) i (timeOf t) b (ap timeOf second)
+      (λ k h m. ap timeOf (other (800 + k) (λ e. omega arith) (λ e. m (omega arith)) (λ e. omega arith)))
 
   field-there : (f : ℕ → ℕ) (x : ℕ) → f n ≡ x → table 64 (λ k. f (word with 864 k)) ≡ set (table 64 (λ k. f (word w 864 k))) i x
   field-there f x e =
@@ -183,7 +183,7 @@ put-law w i n x l b s = put-there w i (x .who) (x .at .0) n l b x refl refl s
 
 -- three rows moved down
 module _ (w v u o : List ℕ) (d : Lowered w v 736 63) (g : Lowered v u 800 63) (h : Lowered u o 864 63) where
-  row : (f : ℕ → ℕ) (at : ℕ) → ((p : ℕ) → at ≤ p → p < at + 63 → getD o p 0 ≡ getD w (p + 1) 0) → getD o (at + 63) 0 ≡ getD w (at + 63) 0
+  row : {A : Type 0} (f : ℕ → A) (at : ℕ) → ((p : ℕ) → at ≤ p → p < at + 63 → getD o p 0 ≡ getD w (p + 1) 0) → getD o (at + 63) 0 ≡ getD w (at + 63) 0
       → table 64 (λ k. f (word o at k)) ≡ shifted (table 64 (λ k. f (word w at k))) 63
   row f at moved stays =
       table-lowered 64 63 (λ k. f (word o at k)) (λ k. f (word w at k)) (omega arith)
@@ -199,9 +199,9 @@ module _ (w v u o : List ℕ) (d : Lowered w v 736 63) (g : Lowered v u 800 63) 
       (λ p a b. h .below p (omega arith) ∙ g .below p (omega arith) ∙ d .moved p a b)
       (h .below 799 (omega arith) ∙ g .below 799 (omega arith) ∙ d .above 799 (omega arith))
 
-  times : table 64 (λ k. word o 800 k) ≡ shifted (table 64 (λ k. word w 800 k)) 63
+  times : table 64 (λ k. timeOf (word o 800 k)) ≡ shifted (table 64 (λ k. timeOf (word w 800 k))) 63
   times =
-      row (λ x. x) 800
+      row timeOf 800
       (λ p a b. h .below p (omega arith) ∙ g .moved p a b ∙ d .above (p + 1) (omega arith))
       (h .below 863 (omega arith) ∙ g .above 863 (omega arith) ∙ d .above 863 (omega arith))
 

@@ -1,8 +1,7 @@
 -- The report of a place of the tables; the tables with another report there, and without the oldest.
 use Prim.Native.Nat.{ℕ}
-use mathlib.Core.List.{List}
 use lib.ListN.{getD, set}
-use Rattle.queues.specs.Queue.{shifted}
+use Rattle.lists.specs.Queue.{shifted}
 use Rattle.state.specs.declared.Heard.{Heard}
 use Rattle.words.specs.Tables.{Tables, withReports}
 use Rattle.words_report.specs.declared.Report.{Report}
@@ -11,7 +10,7 @@ abbrev pub reportIn : Tables → ℕ → Report
 reportIn t i =
     record {
       who = getD (t .who) i 0;
-      at = record { 0 = getD (t .heard .at) i 0 };
+      at = getD (t .heard .at) i (record { 0 = 0 });
       channel = getD (t .heard .channel) i 0;
       pdu = getD (t .heard .pdu) i 0;
       len = getD (t .heard .len) i 0;
@@ -21,7 +20,7 @@ reportIn t i =
 abbrev pub heardPut : Heard → ℕ → Report → Heard
 heardPut h i x =
     record {
-      at = set (h .at) i (x .at .0);
+      at = set (h .at) i (x .at);
       channel = set (h .channel) i (x .channel);
       pdu = set (h .pdu) i (x .pdu);
       len = set (h .len) i (x .len);

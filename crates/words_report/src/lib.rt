@@ -5,15 +5,14 @@ ghost use mathlib.Core.Bool.{_&&_, not};
 ghost use Prim.Native.Nat.{_≤_, _<_};
 ghost use lib.ListN.{take, set};
 ghost use lib.Dec.{eqb};
-ghost use Rattle.base.specs.Choice.{pick};
-ghost use Rattle.places.specs.Sizes.{mostReports, mostKeys, dataSize};
-ghost use Rattle.reports.specs.Key.{seek, among};
-ghost use Rattle.reports.specs.Reports.{noResponse};
+ghost use Rattle.bytes.specs.Choice.{pick};
+ghost use Rattle.state_places.specs.Sizes.{mostReports, mostKeys, dataSize};
+ghost use Rattle.adv_reports.specs.Key.{seek, among};
+ghost use Rattle.adv_reports.specs.Reports.{noResponse};
 ghost use Rattle.words.specs.Words.{channelOf, pduOf, dataLenOf, responseOf};
 ghost use Rattle.words.specs.Tables as all;
 ghost use Rattle.words.specs.Tables.{whoIn, keysIn};
 ghost use Rattle.words_report.specs.Places.{reportIn, reportPut, reportsDown};
-use places::MAX_REPORTS;
 use time::Micros;
 use words::KEY;
 use words::REPORT;
@@ -32,8 +31,6 @@ pub struct Report {
 
 // The length of a scan response where there is none.
 pub const NO_RESPONSE: u8 = 32;
-
-const LAST: usize = MAX_REPORTS - 1;
 
 // Where a word's fields begin: the channel has the 8 bits below the PDU type.
 const PDU: u64 = 256;
@@ -135,9 +132,9 @@ pub fn put_report(tables: &mut [u64; 1056], i: usize, x: Report)
 pub fn shift_reports(tables: &mut [u64; 1056])
     ensures { λ _. ⌜ all.tables (now (tables .exit)) ≡ reportsDown (all.tables (now (tables .entry))) ⌝ }
 {
-    words::lower(tables, REPORT_WHO, LAST);
-    words::lower(tables, REPORT_AT, LAST);
-    words::lower(tables, REPORT, LAST);
+    words::lower(tables, REPORT_WHO, adv_reports::LAST);
+    words::lower(tables, REPORT_AT, adv_reports::LAST);
+    words::lower(tables, REPORT, adv_reports::LAST);
 }
 
 // Where the first report of an advertiser is, or count.

@@ -8,16 +8,16 @@ use lib.ListN.{length, take, drop, set, getD, length-set}
 use lib.Seq.{getD-set-same, getD-set-other}
 use lib.Dec.{leb, ltb}
 use borrow.Author.Tests.{le-leb, lt-leb, ltb-true, ltb-false}
-use Rattle.queues.specs.Queue.{all, shifted}
-use Rattle.queues.specs.ScanLaws.{rest-cons, rest-nil}
+use Rattle.lists.specs.Queue.{all, shifted}
+use Rattle.lists.proofs.ScanLaws.{rest-cons, rest-nil}
 use Rattle.state.specs.Fresh.{noResult}
 use Rattle.state.specs.declared.Results.{Results}
 use Rattle.state.specs.declared.StepResult.{StepResult}
 use Rattle.state.specs.declared.StepStatus.{StepStatus}
 use Rattle.state.specs.declared.StepStatus.the-variants.{AttError}
-use Rattle.fit.specs.Fit.{resultsFit}
-use Rattle.turns.specs.Finish.{pushedResult}
-use Rattle.turns.proofs.FinishLaws.{push-room, push-full}
+use Rattle.state_rules.specs.Fit.{resultsFit}
+use Rattle.script_rules.specs.Finish.{pushedResult}
+use Rattle.script_rules.proofs.FinishLaws.{push-room, push-full}
 use Rattle.words.specs.Rows.{Same, Lowered}
 use Rattle.words.specs.Words.{statusOf, resultOf}
 use Rattle.words.specs.Tables.{Tables, word, resultsIn, tables, withResults}

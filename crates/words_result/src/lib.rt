@@ -2,11 +2,11 @@
 ghost use mathlib.Core.Path.{_≡_};
 ghost use Prim.Native.Nat.{_+_, _*_, _/_, _%_, _≤_, _<_};
 ghost use lib.ListN.{getD, set, take};
-ghost use Rattle.places.specs.Sizes.{mostResults};
-ghost use Rattle.queues.specs.Queue.{shifted};
+ghost use Rattle.state_places.specs.Sizes.{mostResults};
+ghost use Rattle.lists.specs.Queue.{shifted};
 ghost use Rattle.state.specs.Fresh.{noResult};
-ghost use Rattle.fit.specs.Fit.{resultsFit};
-ghost use Rattle.turns.specs.Finish.{pushedResult};
+ghost use Rattle.state_rules.specs.Fit.{resultsFit};
+ghost use Rattle.script_rules.specs.Finish.{pushedResult};
 ghost use Rattle.words.specs.Words.{two56, statusOf, resultOf};
 ghost use Rattle.words.specs.Tables.{resultsIn};
 ghost use Rattle.words.specs.Tables as all;
@@ -29,10 +29,7 @@ const LENGTH: u64 = 72_057_594_037_927_936;
 const LENGTH_END: u64 = 17_798_225_727_368_200_192;
 
 // The last place of the table.
-const LAST: usize = 63;
-
-// All results of a full table but the oldest.
-const OTHERS: usize = 63;
+const LAST: usize = state_places::MAX_RESULTS - 1;
 
 // ---- a result to its word
 
@@ -143,8 +140,8 @@ fn put_result(tables: &mut [u64; 1056], i: usize, r: StepResult)
 fn shift_results(tables: &mut [u64; 1056])
     ensures { λ _. ⌜ all.tables (now (tables .exit)) ≡ all.withResults (all.tables (now (tables .entry))) (shifted (resultsIn (now (tables .entry))) 63) ⌝ }
 {
-    words::lower(tables, words::RESULT_AT, OTHERS);
-    words::lower(tables, words::RESULT, OTHERS);
+    words::lower(tables, words::RESULT_AT, LAST);
+    words::lower(tables, words::RESULT, LAST);
 }
 
 // Keeps one result more, behind count others, and returns how many there are then: where all places are taken, the oldest goes.
@@ -154,7 +151,7 @@ pub fn push_result(tables: &mut [u64; 1056], count: usize, r: StepResult) -> usi
         ⌜ (all.tables (now (tables .exit)) ≡ all.withResults (all.tables (now (tables .entry))) (pushedResult (resultsAs (now (tables .entry)) count) r .kept))
         × (n ≡ pushedResult (resultsAs (now (tables .entry)) count) r .count) ⌝ }
 {
-    if count < places::MAX_RESULTS {
+    if count < state_places::MAX_RESULTS {
         put_result(tables, count, r);
         let more = count + 1;
         return more;

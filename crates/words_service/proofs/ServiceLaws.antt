@@ -8,11 +8,11 @@ use native.Mathlib.Omega.{arith}
 use lib.ListN.{length, take, drop, getD, set, length-set, length-append}
 use lib.Seq.{getD-set-same, getD-set-other, take-suc, take-suc-set, length-take-le}
 use lib.Dec.{eqb}
-use Rattle.entries.proofs.TableLaws.{onto-onto, set-onto, take-onto, length-onto, first-pass, first-hit, first-end}
-use Rattle.queues.specs.Queue.{onto}
-use Rattle.services.specs.Service.{serviceWith, zero-service}
-use Rattle.services.specs.declared.Service.{Service}
-use Rattle.services.specs.declared.Which.the-variants.{At, Nothing}
+use Rattle.lists.proofs.TableLaws.{onto-onto, set-onto, take-onto, length-onto, first-pass, first-hit, first-end}
+use Rattle.lists.specs.Queue.{onto}
+use Rattle.gatt_services.specs.Service.{serviceWith, zero-service}
+use Rattle.gatt_services.specs.declared.Service.{Service}
+use Rattle.gatt_services.specs.declared.Which.the-variants.{At, Nothing}
 use Rattle.uuid.specs.Value.{num}
 use Rattle.uuid.specs.declared.Uuid.{Uuid}
 use Rattle.words.specs.Rows.{Same}

@@ -5,15 +5,15 @@ use mathlib.Core.List.{List}
 use native.Mathlib.Omega.{arith}
 use lib.ListN.{length, take}
 use lib.Seq.{length-take-le}
-use Rattle.queues.specs.Queue.{onto}
-use Rattle.entries.specs.Cut.{entries, part}
-use Rattle.entries.specs.Taken.{Have, taken}
-use Rattle.entries.proofs.TableLaws.{take-onto}
-use Rattle.entries.proofs.TakenLaws.{taken-most}
-use Rattle.services.specs.Service.{known, more, endOf, servicesTaken}
-use Rattle.services.specs.declared.Service.{Service}
-use Rattle.services.specs.declared.Services.{Services}
-use Rattle.services.specs.declared.Found.{Found}
+use Rattle.lists.specs.Queue.{onto}
+use Rattle.lists.specs.Cut.{entries, part}
+use Rattle.lists.specs.Taken.{Have, taken}
+use Rattle.lists.proofs.TableLaws.{take-onto}
+use Rattle.lists.proofs.TakenLaws.{taken-most}
+use Rattle.gatt_services.specs.Service.{known, more, endOf, servicesTaken}
+use Rattle.gatt_services.specs.declared.Service.{Service}
+use Rattle.gatt_services.specs.declared.Services.{Services}
+use Rattle.gatt_services.specs.declared.Found.{Found}
 use Rattle.words.specs.Tables.{tables, withServices, servicesIn}
 use Rattle.words.proofs.RowLaws.{length-services}
 use Rattle.words_service.specs.Taken.{takenIn}

@@ -1,9 +1,9 @@
 -- What an answer leaves of the services in the words.
 use Prim.Native.Nat.{ℕ}
 use mathlib.Core.List.{List}
-use Rattle.entries.specs.Cut.{entries, part}
-use Rattle.services.specs.Service.{servicesTaken}
-use Rattle.services.specs.declared.Found.{Found}
+use Rattle.lists.specs.Cut.{entries, part}
+use Rattle.gatt_services.specs.Service.{servicesTaken}
+use Rattle.gatt_services.specs.declared.Found.{Found}
 use Rattle.words.specs.Tables.{servicesIn}
 
 -- its entries of size bytes stand in s from index from to index end; the first n services of the words are known

@@ -2,16 +2,16 @@
 ghost use mathlib.Core.Path.{_≡_};
 ghost use Prim.Native.Nat.{_/_, _%_, _<_, _≤_};
 ghost use lib.ListN.{length, take, getD, set};
-ghost use Rattle.places.specs.Sizes.{mostServices};
-ghost use Rattle.queues.specs.Queue.{onto};
-ghost use Rattle.services.specs.Service.{known, serviceWith, zero-service};
+ghost use Rattle.state_places.specs.Sizes.{mostServices};
+ghost use Rattle.lists.specs.Queue.{onto};
+ghost use Rattle.gatt_services.specs.Service.{known, serviceWith, zero-service};
 ghost use Rattle.words.specs.Tables as all;
 ghost use Rattle.words.specs.Tables.{servicesIn};
 ghost use Rattle.words.specs.Words.{two16, halfAt};
 ghost use Rattle.words_service.specs.Taken.{takenIn};
-use services::Service;
-use services::Services;
-use services::Which;
+use gatt_services::Service;
+use gatt_services::Services;
+use gatt_services::Which;
 use uuid::Uuid;
 
 // A handle is below it: the end handle stands above the start handle's 16 bits.
@@ -140,7 +140,7 @@ pub fn take_services(
         × (r .full ≡ takenIn (now (tables .entry)) count (now (store .entry)) from end size .full) ⌝ }
 {
     let old = services_of(tables, count);
-    let found = services::take_services(old, store, from, end, size);
+    let found = gatt_services::take_services(old, store, from, end, size);
     let new = found.table;
     put_services(tables, new);
     Answered {

@@ -9,12 +9,12 @@ use lib.ListN.{take, getD}
 use lib.Seq.{take-suc}
 use lib.Dec.{eqb, leb, ltb}
 use borrow.Author.Tests.{le-leb, ltb-true, ne-eqb}
-use Rattle.base.proofs.TestLaws.{both}
-use Rattle.places.specs.Sizes.{valueSize}
-use Rattle.queues.specs.Queue.{all}
-use Rattle.queues.specs.ScanLaws.{all-append, all-cons}
-use Rattle.fit.specs.Steps.{implies, mostMtu, stepFits}
-use Rattle.fit.specs.Fit.{stepsFit}
+use Rattle.bytes.proofs.TestLaws.{both}
+use Rattle.state_places.specs.Sizes.{valueSize}
+use Rattle.lists.specs.Queue.{all}
+use Rattle.lists.proofs.ScanLaws.{all-append, all-cons}
+use Rattle.state_rules.specs.Steps.{implies, mostMtu, stepFits}
+use Rattle.state_rules.specs.Fit.{stepsFit}
 use Rattle.state.specs.Fresh.{noQueued}
 use Rattle.state.specs.declared.Queued.{Queued}
 use Rattle.words.specs.declared.Flat.{Flat}

@@ -7,10 +7,10 @@ use native.Mathlib.Omega.{arith}
 use lib.ListN.{length, getD, set, length-set}
 use lib.Seq.{getD-set-same, getD-set-other}
 use lib.Dec.{eqb}
-use Rattle.base.specs.Choice.{pick}
-use Rattle.queues.specs.Queue.{shifted}
+use Rattle.bytes.specs.Choice.{pick}
+use Rattle.lists.specs.Queue.{shifted}
 use Rattle.time.specs.declared.Millis.{Millis}
-use Rattle.kinds.specs.Kinds.{carries}
+use Rattle.state_kinds.specs.Kinds.{carries}
 use Rattle.state.specs.declared.Queued.{Queued}
 use Rattle.state.specs.declared.Target.{Target}
 use Rattle.state.specs.declared.Step.{Step}

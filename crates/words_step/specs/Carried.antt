@@ -1,10 +1,10 @@
 -- A step as it waits, and a step taken apart.
 use Prim.Native.Nat.{ℕ}
 use mathlib.Core.Bool.{Bool}
-use Rattle.base.specs.Choice.{pick}
+use Rattle.bytes.specs.Choice.{pick}
 use Rattle.time.specs.declared.Millis.{Millis}
 use Rattle.uuid.specs.declared.Uuid.{Uuid}
-use Rattle.kinds.specs.Kinds.{carries}
+use Rattle.state_kinds.specs.Kinds.{carries}
 use Rattle.state.specs.declared.Queued.{Queued}
 use Rattle.state.specs.declared.Step.{Step}
 use Rattle.words.specs.declared.Flat.{Flat}

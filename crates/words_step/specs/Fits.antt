@@ -2,9 +2,9 @@
 use Prim.Native.Nat.{ℕ, _/_, _%_}
 use mathlib.Core.Bool.{Bool, _&&_, _||_}
 use lib.Dec.{eqb, leb}
-use Rattle.kinds.specs.Kinds.{exchangeMtu, write, waitNotification}
-use Rattle.places.specs.Sizes.{valueSize}
-use Rattle.fit.specs.Steps.{implies, mostMtu}
+use Rattle.state_kinds.specs.Kinds.{exchangeMtu, write, waitNotification}
+use Rattle.state_places.specs.Sizes.{valueSize}
+use Rattle.state_rules.specs.Steps.{implies, mostMtu}
 use Rattle.words.specs.Words.{two48}
 
 abbrev pub wordFits : ℕ → Bool

@@ -3,13 +3,13 @@ ghost use mathlib.Core.Path.{_≡_};
 ghost use mathlib.Core.Bool.{true};
 ghost use Prim.Native.Nat.{_/_, _%_, _≤_, _<_};
 ghost use lib.ListN.{take, getD, set};
-ghost use Rattle.base.specs.Choice.{pick};
-ghost use Rattle.kinds.specs.Kinds.{carries};
-ghost use Rattle.places.specs.Sizes.{mostSteps};
-ghost use Rattle.queues.specs.Queue.{shifted};
-ghost use Rattle.reports.specs.Key.{addressOf};
+ghost use Rattle.bytes.specs.Choice.{pick};
+ghost use Rattle.state_kinds.specs.Kinds.{carries};
+ghost use Rattle.state_places.specs.Sizes.{mostSteps};
+ghost use Rattle.lists.specs.Queue.{shifted};
+ghost use Rattle.adv_reports.specs.Key.{addressOf};
 ghost use Rattle.state.specs.Fresh.{noQueued};
-ghost use Rattle.fit.specs.Fit.{stepsFit};
+ghost use Rattle.state_rules.specs.Fit.{stepsFit};
 ghost use Rattle.words.specs.Words.{two16, two32, two48, halfAt, bitAt, targetOf, stepOf, lenOf, queuedOf, flatOf};
 ghost use Rattle.words.specs.Tables.{word, stepsIn};
 ghost use Rattle.words.specs.Tables as all;
@@ -55,7 +55,7 @@ const AIM_ADDRESS: u8 = 1;
 const AIM_SERVICE: u8 = 2;
 
 // The most bytes of a step's value.
-const MAX_VALUE: u16 = places::MAX_VALUE as u16;
+const MAX_VALUE: u16 = state_places::MAX_VALUE as u16;
 
 // 245 * 2^48: a first word below it has a size of at most 244, and that fits every kind.
 const SHORT_BELOW: u64 = 68_961_369_294_110_720;
@@ -72,7 +72,7 @@ struct Aim {
 fn number_of(a: Address) -> u64
     ensures { λ r. ⌜ addressOf r ≡ a ⌝ }
 {
-    reports::key_of(a)
+    adv_reports::key_of(a)
 }
 
 fn aim_of(target: Target) -> Aim
@@ -114,14 +114,14 @@ fn plain(kind: u8, flag: bool, ms: Millis, size: u16, uuid: Uuid) -> Flat
     }
 }
 
-fn flat_of(step: Step, len: u8) -> Flat
+pub fn flat_of(step: Step, len: u8) -> Flat
     ensures { λ r. ⌜ (stepOf r ≡ step) × (lenOf r ≡ pick (carries step) len 0) ⌝ }
 {
     let none = Uuid { low: 0, high: 0 };
     let never = Millis(0);
     let size = len as u16;
     match step {
-        Step::Scan { ms } => plain(kinds::SCAN, false, ms, 0, none),
+        Step::Scan { ms } => plain(state_kinds::SCAN, false, ms, 0, none),
         Step::Connect {
             target,
             interval,
@@ -132,7 +132,7 @@ fn flat_of(step: Step, len: u8) -> Flat
             let to = aim_of(target);
             let uuid = to.uuid;
             Flat {
-                kind: kinds::CONNECT,
+                kind: state_kinds::CONNECT,
                 flag: false,
                 ms: within_ms,
                 size: 0,
@@ -143,10 +143,10 @@ fn flat_of(step: Step, len: u8) -> Flat
                 interval,
             }
         }
-        Step::ExchangeMtu { mtu } => plain(kinds::EXCHANGE_MTU, false, never, mtu, none),
-        Step::DiscoverServices => plain(kinds::DISCOVER_SERVICES, false, never, 0, none),
+        Step::ExchangeMtu { mtu } => plain(state_kinds::EXCHANGE_MTU, false, never, mtu, none),
+        Step::DiscoverServices => plain(state_kinds::DISCOVER_SERVICES, false, never, 0, none),
         Step::DiscoverCharacteristics { service } => plain(
-            kinds::DISCOVER_CHARACTERISTICS,
+            state_kinds::DISCOVER_CHARACTERISTICS,
             false,
             never,
             0,
@@ -155,26 +155,38 @@ fn flat_of(step: Step, len: u8) -> Flat
         Step::Subscribe {
             characteristic,
             indicate,
-        } => plain(kinds::SUBSCRIBE, indicate, never, 0, characteristic),
+        } => plain(state_kinds::SUBSCRIBE, indicate, never, 0, characteristic),
         Step::Write {
             characteristic,
             with_response,
-        } => plain(kinds::WRITE, with_response, never, size, characteristic),
-        Step::Read { characteristic } => plain(kinds::READ, false, never, 0, characteristic),
+        } => plain(
+            state_kinds::WRITE,
+            with_response,
+            never,
+            size,
+            characteristic,
+        ),
+        Step::Read { characteristic } => plain(state_kinds::READ, false, never, 0, characteristic),
         Step::WaitNotification {
             characteristic,
             within_ms,
         } => plain(
-            kinds::WAIT_NOTIFICATION,
+            state_kinds::WAIT_NOTIFICATION,
             false,
             within_ms,
             size,
             characteristic,
         ),
-        Step::Wait { ms } => plain(kinds::WAIT, false, ms, 0, none),
-        Step::Disconnect => plain(kinds::DISCONNECT, false, never, 0, none),
-        Step::Capture { enabled } => plain(kinds::CAPTURE, enabled, never, 0, none),
-        Step::CaptureSecrets { secrets } => plain(kinds::CAPTURE_SECRETS, secrets, never, 0, none),
+        Step::Wait { ms } => plain(state_kinds::WAIT, false, ms, 0, none),
+        Step::Disconnect => plain(state_kinds::DISCONNECT, false, never, 0, none),
+        Step::Capture { enabled } => plain(state_kinds::CAPTURE, enabled, never, 0, none),
+        Step::CaptureSecrets { secrets } => plain(
+            state_kinds::CAPTURE_SECRETS,
+            secrets,
+            never,
+            0,
+            none,
+        ),
     }
 }
 
@@ -186,14 +198,14 @@ fn target_of(aim: u8, uuid: Uuid) -> Target
     match aim {
         AIM_ANY => Target::Any,
         AIM_ADDRESS => {
-            let a = reports::address_of(uuid.low);
+            let a = adv_reports::address_of(uuid.low);
             Target::Address(a)
         }
         _ => Target::Service(uuid),
     }
 }
 
-fn step_of(f: Flat) -> Step
+pub fn step_of(f: Flat) -> Step
     ensures { λ r. ⌜ r ≡ stepOf f ⌝ }
 {
     let kind = f.kind;
@@ -201,8 +213,8 @@ fn step_of(f: Flat) -> Step
     let uuid = f.uuid;
     let flag = f.flag;
     match kind {
-        kinds::SCAN => Step::Scan { ms },
-        kinds::CONNECT => {
+        state_kinds::SCAN => Step::Scan { ms },
+        state_kinds::CONNECT => {
             let target = target_of(f.aim, uuid);
             Step::Connect {
                 target,
@@ -212,27 +224,27 @@ fn step_of(f: Flat) -> Step
                 within_ms: ms,
             }
         }
-        kinds::EXCHANGE_MTU => Step::ExchangeMtu { mtu: f.size },
-        kinds::DISCOVER_SERVICES => Step::DiscoverServices,
-        kinds::DISCOVER_CHARACTERISTICS => Step::DiscoverCharacteristics { service: uuid },
-        kinds::SUBSCRIBE => Step::Subscribe {
+        state_kinds::EXCHANGE_MTU => Step::ExchangeMtu { mtu: f.size },
+        state_kinds::DISCOVER_SERVICES => Step::DiscoverServices,
+        state_kinds::DISCOVER_CHARACTERISTICS => Step::DiscoverCharacteristics { service: uuid },
+        state_kinds::SUBSCRIBE => Step::Subscribe {
             characteristic: uuid,
             indicate: flag,
         },
-        kinds::WRITE => Step::Write {
+        state_kinds::WRITE => Step::Write {
             characteristic: uuid,
             with_response: flag,
         },
-        kinds::READ => Step::Read {
+        state_kinds::READ => Step::Read {
             characteristic: uuid,
         },
-        kinds::WAIT_NOTIFICATION => Step::WaitNotification {
+        state_kinds::WAIT_NOTIFICATION => Step::WaitNotification {
             characteristic: uuid,
             within_ms: ms,
         },
-        kinds::WAIT => Step::Wait { ms },
-        kinds::DISCONNECT => Step::Disconnect,
-        kinds::CAPTURE => Step::Capture { enabled: flag },
+        state_kinds::WAIT => Step::Wait { ms },
+        state_kinds::DISCONNECT => Step::Disconnect,
+        state_kinds::CAPTURE => Step::Capture { enabled: flag },
         _ => Step::CaptureSecrets { secrets: flag },
     }
 }
@@ -242,7 +254,7 @@ fn len_of(f: Flat) -> u8
     ensures { λ r. ⌜ r ≡ lenOf f ⌝ }
 {
     let kind = f.kind;
-    if (kind == kinds::WRITE) | (kind == kinds::WAIT_NOTIFICATION) {
+    if (kind == state_kinds::WRITE) | (kind == state_kinds::WAIT_NOTIFICATION) {
         return (f.size % LENGTHS) as u8;
     }
     0
@@ -374,9 +386,9 @@ fn word_fits(a: u64) -> bool
 {
     let kind = (a % IN_8_BITS) as u8;
     let size = top(a);
-    let carries = (kind == kinds::WRITE) | (kind == kinds::WAIT_NOTIFICATION);
+    let carries = (kind == state_kinds::WRITE) | (kind == state_kinds::WAIT_NOTIFICATION);
     (!carries | (size % LENGTHS <= MAX_VALUE))
-        & (!(kind == kinds::EXCHANGE_MTU) | (size <= fit::MAX_MTU))
+        & (!(kind == state_kinds::EXCHANGE_MTU) | (size <= state_rules::MAX_MTU))
 }
 
 fn each_fits(tables: &[u64; 1056], count: usize) -> bool

@@ -1,5 +1,7 @@
 //! Fragments on a link.
 
+use crate::c;
+use crate::exports::Memory;
 use crate::setup::{CALLS_A_SET_UP, HEARD, KEPT, Lent, Talk, WORDS, lend_values};
 use crate::{Form, begun, compare, known, port_states, running, rust_states, taken, told, unlisted};
 use oracle::ble::central::{Central, CentralLink, Notification, Service, Step};
@@ -84,8 +86,14 @@ fn port_fragments(l: &mut Lent, form: Form, n: u32, talk: Talk, start: bool, fra
         match form {
             Form::Lent => lent_fragments(n, row, start, &mut *l.tables, store, size, out, room, data, len),
             Form::ByValue => value_fragments(n, row, start, store, size, out, room, data, len),
+            Form::C => unreachable!("on states of its own"),
         }
     }
+}
+
+#[inline(never)]
+fn c_fragments(m: &mut Memory, n: u32, start: bool, fragment: &[u8]) -> u64 {
+    (0..n).map(|i| m.on_fragment(u64::from(i), start, fragment)[2]).sum()
 }
 
 pub fn rows(l: &mut Lent, rounds: usize) {
@@ -98,11 +106,12 @@ pub fn rows(l: &mut Lent, rounds: usize) {
     ] {
         let frame = talk.frame();
         let rust = || rust_states(states, || linked(talk), |c| rust_fragments(c, n, start, &frame));
-        let port = |form| {
-            port_states(states, n, |n| {
+        let port = |form| match form {
+            Form::C => c::states(states, || linked(talk), |m| c_fragments(m, n, start, &frame)),
+            _ => port_states(states, n, |n| {
                 lend_values(l, talk);
                 port_fragments(l, form, n, talk, start, &frame)
-            })
+            }),
         };
         compare(name, n * states, rounds, rust, port);
     }

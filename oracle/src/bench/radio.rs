@@ -1,5 +1,7 @@
 //! Advertisements, and a round of three calls.
 
+use crate::c;
+use crate::exports::Memory;
 use crate::setup::{DATA, Lent, WORDS};
 use crate::{Form, Took, compare, known, less_set_up, running, timed, told, unlisted};
 use oracle::ble::central::{AdvAction, Central, Notification, Service, Step, StepResult, StepStatus, Target};
@@ -163,6 +165,7 @@ fn port_round(l: &mut Lent, form: Form, n: u32, row: Row, half: bool) -> u64 {
         match form {
             Form::Lent => lent_advertising(n, row as u8, half, &mut *l.tables, store, size, data, len),
             Form::ByValue => value_advertising(n, row as u8, half, store, size, data, len),
+            Form::C => unreachable!("on a state of its own"),
         }
     }
 }
@@ -176,8 +179,40 @@ fn port_mixed(l: &mut Lent, form: Form, n: u32) -> u64 {
         match form {
             Form::Lent => lent_mixed(n, &mut *l.tables, store, size, out, room, data, len),
             Form::ByValue => value_mixed(n, store, size, out, room, data, len),
+            Form::C => unreachable!("on a state of its own"),
         }
     }
+}
+
+fn c_advertise(m: &mut Memory, at: u32, who: u32) -> u64 {
+    let seen = (37, 0, c::number_of(&address(who), true));
+    m.on_advertising(u64::from(at), seen, &DATA, false)[1] + 1
+}
+
+#[inline(never)]
+fn c_round(m: &mut Memory, advertisers: u32) -> u64 {
+    let (mut sum, mut who) = (0, 0);
+    for i in 0..CALLS {
+        sum += c_advertise(m, i, who);
+        who = after(who, advertisers);
+    }
+    sum
+}
+
+#[inline(never)]
+fn c_mixed(m: &mut Memory, advertisers: u32) -> u64 {
+    let (mut sum, mut who) = (0, 0);
+    for i in 0..CALLS {
+        sum += c_advertise(m, i, who);
+        m.on_scan_response(u64::from(i), c::number_of(&address(who), true), &DATA);
+        m.on_timer(u64::from(i));
+        who = after(who, advertisers);
+    }
+    sum
+}
+
+fn from_c(row: Row, half: bool, round: fn(&mut Memory, u32) -> u64) -> Took {
+    c::states(1, || listening(row, half), |m| round(m, row.advertisers()))
 }
 
 pub fn rows(l: &mut Lent, rounds: usize) {
@@ -188,14 +223,20 @@ pub fn rows(l: &mut Lent, rounds: usize) {
         ("advertising, Connect, no match", Row::Connect),
     ] {
         for (tables, half) in [("tables empty", false), ("tables half full", true)] {
-            let port = |form| {
-                lend_reports(l);
-                less_set_up(CALLS, |n| port_round(l, form, n, row, half))
+            let port = |form| match form {
+                Form::C => from_c(row, half, c_round),
+                _ => {
+                    lend_reports(l);
+                    less_set_up(CALLS, |n| port_round(l, form, n, row, half))
+                }
             };
             compare(&format!("{name}, {tables}"), CALLS, rounds, || rust(row, half, rust_round), port);
         }
     }
-    let port = |form| less_set_up(CALLS, |n| port_mixed(l, form, n));
+    let port = |form| match form {
+        Form::C => from_c(Row::Known, false, c_mixed),
+        _ => less_set_up(CALLS, |n| port_mixed(l, form, n)),
+    };
     compare(
         "mixed: advertising, scan response, timer",
         3 * CALLS,

@@ -1,5 +1,7 @@
 //! Batches and timer calls.
 
+use crate::c;
+use crate::exports::Memory;
 use crate::setup::{CALLS_A_SET_UP, Lent, WORDS};
 use crate::{Form, begun, compare, less_set_up, port_states, running, rust_states, taken, timed, told};
 use oracle::ble::central::{Central, Step};
@@ -75,8 +77,27 @@ fn port_batches(l: &mut Lent, form: Form, n: u32, ends: bool) -> u64 {
         match form {
             Form::Lent => lent_batches(n, ends, &mut *l.tables, store, size, out, room, values, 0),
             Form::ByValue => value_batches(n, ends, store, size, out, room, values, 0),
+            Form::C => unreachable!("on words of its own"),
         }
     }
+}
+
+/// Each batch on a fresh core: where no place is in use, what the tables have is not read.
+#[inline(never)]
+fn c_batches(m: &mut Memory, n: u32, steps: &[u64]) -> u64 {
+    (0..u64::from(n)).fold(0, |sum, i| {
+        m.core.fill(0);
+        m.push_steps(i, steps, 64, &[]);
+        sum + m.core[27] + m.core[28]
+    })
+}
+
+#[inline(never)]
+fn c_timers(m: &mut Memory) -> u64 {
+    for i in 1..=CALLS_A_SET_UP {
+        m.on_timer(u64::from(i) * 1000);
+    }
+    0
 }
 
 fn port_timers(l: &mut Lent, form: Form, n: u32) -> u64 {
@@ -87,6 +108,7 @@ fn port_timers(l: &mut Lent, form: Form, n: u32) -> u64 {
         match form {
             Form::Lent => lent_timers(n, &mut *l.tables, store, size, out, room),
             Form::ByValue => value_timers(n, store, size, out, room),
+            Form::C => unreachable!("on states of its own"),
         }
     }
 }
@@ -100,11 +122,18 @@ pub fn rows(l: &mut Lent, rounds: usize) {
             let batches = vec![vec![step.clone(); 64]; BATCHES as usize];
             timed(|| rust_batches(batches))
         };
-        let port = |form| less_set_up(BATCHES, |n| port_batches(l, form, n, ends));
+        let (mut memory, words) = (Memory::new(), c::batch_words(&vec![step.clone(); 64]));
+        let port = |form| match form {
+            Form::C => timed(|| c_batches(&mut memory, BATCHES, &words)),
+            _ => less_set_up(BATCHES, |n| port_batches(l, form, n, ends)),
+        };
         compare(name, BATCHES, rounds, rust, port);
     }
     const STATES: u32 = 10;
     let rust = || rust_states(STATES, waiting, rust_timers);
-    let port = |form| port_states(STATES, CALLS_A_SET_UP, |n| port_timers(l, form, n));
+    let port = |form| match form {
+        Form::C => c::states(STATES, waiting, c_timers),
+        _ => port_states(STATES, CALLS_A_SET_UP, |n| port_timers(l, form, n)),
+    };
     compare("a timer call that ends a step", CALLS_A_SET_UP * STATES, rounds, rust, port);
 }

@@ -1,5 +1,6 @@
 //! The port as a process: a trace goes in, lines come out.
 
+use crate::asked::Asked;
 use crate::trace::Call;
 use std::io::{BufRead, BufReader, Write};
 use std::process::{Child, ChildStdin, Command, Stdio};
@@ -77,7 +78,17 @@ impl Live {
         Live { path: path.into(), now: None }
     }
 
-    pub fn ask(&mut self, call: &Call) -> Option<Vec<u8>> {
+    fn stop(&mut self) {
+        if let Some((mut child, stdin, lines)) = self.now.take() {
+            drop((stdin, lines));
+            let _ = child.kill();
+            let _ = child.wait();
+        }
+    }
+}
+
+impl Asked for Live {
+    fn ask(&mut self, call: &Call) -> Option<Vec<u8>> {
         if self.now.is_none() {
             self.now = spawn(&self.path).ok();
         }
@@ -92,14 +103,6 @@ impl Live {
             self.stop();
         }
         line
-    }
-
-    fn stop(&mut self) {
-        if let Some((mut child, stdin, lines)) = self.now.take() {
-            drop((stdin, lines));
-            let _ = child.kill();
-            let _ = child.wait();
-        }
     }
 }
 

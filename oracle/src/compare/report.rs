@@ -1,6 +1,6 @@
 //! What a run showed, and what it ought to have shown.
 
-use crate::Options;
+use crate::options::Options;
 use crate::sequence::counts::{Counts, KINDS, STATUSES, seen};
 use crate::sequence::{Groups, Plan};
 use crate::trace::NAMES;
@@ -92,7 +92,7 @@ pub fn empty(c: &Counts, plan: Plan) -> Vec<String> {
 }
 
 pub fn print(o: &Options, c: &Counts, took: Duration) {
-    let calls: u64 = c.calls[1..=10].iter().sum();
+    let calls = c.made();
     println!(
         "seed {}, sequences {}, calls {calls}, dumps {}, {:.1} s",
         o.plan.seed,

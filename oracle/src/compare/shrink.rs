@@ -1,10 +1,11 @@
 //! The first difference, made small: calls and steps are dropped while the difference stays.
 
-use crate::port::Live;
-use crate::sequence::Recorded;
+use crate::asked::Asked;
+use crate::options::Options;
+use crate::sequence::bytes;
 use crate::trace::{Batch, Call, answer, gate};
+use crate::verdict::Difference;
 use crate::words::{brief, call as words, contrast};
-use crate::{Difference, Options};
 use oracle::ble::central::{Central, Step};
 use std::time::{Duration, Instant};
 
@@ -19,17 +20,18 @@ struct Found {
 
 /// Plays the calls on both from a fresh state. None where they agree, and where 01 refuses a call with a number
 /// above `most`.
-fn differs(live: &mut Live, calls: &[Call], most: u8) -> Option<Found> {
+fn differs(port: &mut impl Asked, calls: &[Call], most: u8) -> Option<Found> {
     let mut central = Central::default();
-    if live.ask(&Call::Fresh)? != b"fresh" {
+    if port.ask(&Call::Fresh)? != b"fresh" {
         return None;
     }
     for (at, call) in calls.iter().enumerate() {
         if gate::refusal(&central, call) > most {
             return None;
         }
-        let wanted = answer::judge(&mut central, call).0;
-        let got = live.ask(call);
+        let answer = answer::judge(&mut central, call).0;
+        let wanted = answer::line(call, &answer, &central);
+        let got = port.ask(call);
         if got.as_ref() != Some(&wanted) {
             return Some(Found { at, wanted, got });
         }
@@ -45,21 +47,21 @@ fn with_dumps(calls: &[Call]) -> Vec<Call> {
     calls.iter().filter(changes).flat_map(|c| [c.clone(), Call::Dump]).collect()
 }
 
-struct Shrinker {
-    live: Live,
+struct Shrinker<P> {
+    port: P,
     until: Instant,
     tried: u64,
     most: u8,
 }
 
-impl Shrinker {
+impl<P: Asked> Shrinker<P> {
     /// Takes `with` for the calls if it differs still, cut behind the difference.
     fn keep(&mut self, calls: &mut Vec<Call>, mut with: Vec<Call>) -> bool {
         if Instant::now() > self.until {
             return false;
         }
         self.tried += 1;
-        match differs(&mut self.live, &with, self.most) {
+        match differs(&mut self.port, &with, self.most) {
             None => false,
             Some(f) => {
                 with.truncate(f.at + 1);
@@ -176,27 +178,26 @@ fn at_zero(call: &Call) -> Call {
 }
 
 fn write(path: &str, calls: &[Call]) {
-    let made = Recorded { calls: [&[Call::Fresh], calls].concat(), lines: Vec::new() };
-    match std::fs::write(path, made.bytes()) {
+    match std::fs::write(path, bytes(&[&[Call::Fresh], calls].concat())) {
         Ok(()) => println!("written to {path}"),
         Err(e) => println!("{path} can't be written: {e}"),
     }
 }
 
 /// The difference for a person: where, what both said, and the smallest trace found.
-pub fn show(o: &Options, d: Difference) {
+pub fn show(o: &Options, d: Difference, port: impl Asked) {
     println!("\nsequence {} of seed {} differs first at its call {}:", d.number, o.plan.seed, d.at);
-    println!("  {}", words(&d.made.calls[d.at]));
-    println!("  oracle: {}", brief(Some(&d.made.lines[d.at])));
+    println!("  {}", words(&d.made[d.at]));
+    println!("  oracle: {}", brief(Some(&d.wanted)));
     println!("  port:   {}", brief(d.got.as_deref()));
-    println!("  {}", contrast(&d.made.lines[d.at], d.got.as_deref()));
-    let mut calls: Vec<Call> = d.made.calls[1..=d.at.max(1)].to_vec();
+    println!("  {}", contrast(&d.wanted, d.got.as_deref()));
+    let mut calls: Vec<Call> = d.made[1..=d.at.max(1)].to_vec();
     write(&format!("{}/difference.trace", o.save), &calls);
     let most = if o.plan.refusals { gate::TABLE_FULL - 1 } else { 0 };
-    let mut s = Shrinker { live: Live::new(&o.port), until: Instant::now() + MOST_TIME, tried: 0, most };
+    let mut s = Shrinker { port, until: Instant::now() + MOST_TIME, tried: 0, most };
     let dumped = with_dumps(&calls);
-    if !s.keep(&mut calls, dumped) && differs(&mut s.live, &calls, s.most).is_none() {
-        println!("from a fresh process the same calls do not differ: an answer depends on what stood before");
+    if !s.keep(&mut calls, dumped) && differs(&mut s.port, &calls, s.most).is_none() {
+        println!("from a fresh state the same calls do not differ: an answer depends on what stood before");
         return;
     }
     println!("the shortest prefix has {} calls, with a dump after each", calls.len());
@@ -205,7 +206,7 @@ pub fn show(o: &Options, d: Difference) {
     for call in &calls {
         println!("  {}", words(call));
     }
-    if let Some(f) = differs(&mut s.live, &calls, s.most) {
+    if let Some(f) = differs(&mut s.port, &calls, s.most) {
         println!("  oracle: {}", brief(Some(&f.wanted)));
         println!("  port:   {}", brief(f.got.as_deref()));
         println!("  {}", contrast(&f.wanted, f.got.as_deref()));

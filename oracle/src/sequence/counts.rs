@@ -90,6 +90,11 @@ pub fn seen(of: &[bool; 256]) -> usize {
 }
 
 impl Counts {
+    /// Calls, dumps not counted.
+    pub fn made(&self) -> u64 {
+        self.calls[1..=10].iter().sum()
+    }
+
     pub fn before(&mut self, c: &Central, call: &Call) {
         self.calls[usize::from(call.tag())] += 1;
         match call {

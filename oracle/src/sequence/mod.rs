@@ -7,7 +7,8 @@ pub mod rng;
 mod script;
 mod wire;
 
-use crate::trace::{Batch, Call, answer, gate, kind};
+use crate::trace::answer::{self, Answer};
+use crate::trace::{Batch, Call, gate, kind};
 use counts::Counts;
 use head::Head;
 use oracle::ble::central::{AdvAction, Central, Step, Uuid};
@@ -86,8 +87,12 @@ pub struct Profile {
     drop: u64,
 }
 
+/// Sees each call when the oracle has made it: its answer, and the state that it left.
+pub trait Witness {
+    fn saw(&mut self, call: &Call, answer: &Answer, left: &Central);
+}
+
 /// A sequence and the oracle's answers, one line for each call. The first is `Fresh`.
-#[derive(Default)]
 pub struct Recorded {
     pub calls: Vec<Call>,
     pub lines: Vec<Vec<u8>>,
@@ -95,11 +100,25 @@ pub struct Recorded {
 
 impl Recorded {
     pub fn bytes(&self) -> Vec<u8> {
-        let mut out = Vec::new();
-        for call in &self.calls {
-            call.put(&mut out);
-        }
-        out
+        bytes(&self.calls)
+    }
+}
+
+/// The calls as a trace.
+pub fn bytes(calls: &[Call]) -> Vec<u8> {
+    let mut out = Vec::new();
+    for call in calls {
+        call.put(&mut out);
+    }
+    out
+}
+
+#[derive(Default)]
+struct Lines(Vec<Vec<u8>>);
+
+impl Witness for Lines {
+    fn saw(&mut self, call: &Call, answer: &Answer, left: &Central) {
+        self.0.push(answer::line(call, answer, left));
     }
 }
 
@@ -109,6 +128,7 @@ pub struct Sequence<'a> {
     groups: Groups,
     profile: Profile,
     counts: &'a mut Counts,
+    witness: &'a mut dyn Witness,
     central: Central,
     head: Head,
     advertisers: Vec<[u8; 6]>,
@@ -124,7 +144,7 @@ pub struct Sequence<'a> {
     signal: u8,
     /// The kind of each step taken in, by index.
     kinds: Vec<u8>,
-    made: Recorded,
+    made: Vec<Call>,
 }
 
 fn profile(rng: &mut Rng, groups: Groups) -> Profile {
@@ -167,7 +187,7 @@ fn profile(rng: &mut Rng, groups: Groups) -> Profile {
 }
 
 impl<'a> Sequence<'a> {
-    fn new(plan: Plan, number: u64, counts: &'a mut Counts) -> Sequence<'a> {
+    fn new(plan: Plan, number: u64, counts: &'a mut Counts, witness: &'a mut dyn Witness) -> Sequence<'a> {
         let (mut rng, groups) = (Rng::new(plan.seed, number), plan.groups);
         let profile = profile(&mut rng, groups);
         let head = Head::new(&mut rng, profile.scene == Scene::Survey, (number * 3) as u8);
@@ -194,6 +214,7 @@ impl<'a> Sequence<'a> {
             groups,
             profile,
             counts,
+            witness,
             central: Central::default(),
             head,
             advertisers,
@@ -206,7 +227,7 @@ impl<'a> Sequence<'a> {
             opcode,
             signal,
             kinds: Vec::new(),
-            made: Recorded::default(),
+            made: Vec::new(),
         }
     }
 
@@ -217,8 +238,9 @@ impl<'a> Sequence<'a> {
             n if self.plan.refusals && n != gate::TABLE_FULL => {
                 self.counts.refused[usize::from(n)] += 1;
                 self.counts.calls[usize::from(call.tag())] += 1;
-                self.made.lines.push(answer::judge(&mut self.central, &call).0);
-                return self.made.calls.push(call);
+                let answer = answer::judge(&mut self.central, &call).0;
+                self.witness.saw(&call, &answer, &self.central);
+                return self.made.push(call);
             }
             _ => {
                 self.counts.withheld += 1;
@@ -228,14 +250,14 @@ impl<'a> Sequence<'a> {
         self.counts.before(&self.central, &call);
         let taken = self.central.next_index as usize + self.central.queue.len();
         let ended = self.central.next_index - u32::from(self.central.running.is_some());
-        let (line, sent) = answer::play(&mut self.central, &call);
+        let (answer, sent) = answer::play(&mut self.central, &call);
         if let Call::Batch(b) = &call {
             let more = self.central.next_index as usize + self.central.queue.len() - taken;
             self.kinds.extend(b.steps[..more].iter().map(kind));
         }
         self.counts.after(&self.central, &call, &sent, &self.kinds, ended);
-        self.made.calls.push(call);
-        self.made.lines.push(line);
+        self.witness.saw(&call, &answer, &self.central);
+        self.made.push(call);
         for frame in &sent.frames {
             self.react(frame);
         }
@@ -252,10 +274,10 @@ impl<'a> Sequence<'a> {
         let calls = self.plan.calls + self.rng.size(0, self.plan.calls / 10);
         let mut made = 0;
         while made < calls {
-            let before = self.made.calls.len();
+            let before = self.made.len();
             let call = self.next();
             self.make(call);
-            made += self.made.calls.len() - before;
+            made += self.made.len() - before;
             if self.rng.chance(self.plan.dumps) {
                 self.make(Call::Dump);
             }
@@ -432,9 +454,16 @@ impl<'a> Sequence<'a> {
     }
 }
 
-/// Sequence `number` of the plan's seed.
-pub fn record(plan: Plan, number: u64, counts: &mut Counts) -> Recorded {
-    let mut s = Sequence::new(plan, number, counts);
+/// Sequence `number` of the plan's seed, each call seen as it is made.
+pub fn make(plan: Plan, number: u64, counts: &mut Counts, witness: &mut dyn Witness) -> Vec<Call> {
+    let mut s = Sequence::new(plan, number, counts, witness);
     s.run();
     s.made
+}
+
+/// Sequence `number` of the plan's seed, with the oracle's lines.
+pub fn record(plan: Plan, number: u64, counts: &mut Counts) -> Recorded {
+    let mut lines = Lines::default();
+    let calls = make(plan, number, counts, &mut lines);
+    Recorded { calls, lines: lines.0 }
 }

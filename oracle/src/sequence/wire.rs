@@ -110,7 +110,7 @@ impl Sequence<'_> {
 
     /// The scan response that a scan request asked for, of the advertiser heard last.
     pub fn answer_scan(&mut self) {
-        if let Some(Call::Advertising { address, random, .. }) = self.made.calls.last() {
+        if let Some(Call::Advertising { address, random, .. }) = self.made.last() {
             let call = self.scan_response(*address, *random);
             self.make(call);
         }

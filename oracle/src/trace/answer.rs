@@ -1,4 +1,4 @@
-//! Plays a call on the oracle and says what it answered, in the line of docs/TRACE.md.
+//! Plays a call on the oracle and says what it answered, also in the line of docs/TRACE.md.
 
 use super::{Batch, Call, NAMES, gate, kind, value};
 use oracle::ble::central::{AdvAction, Central, LlRequest, Running, Step, StepResult, StepStatus, Target, Uuid};
@@ -9,6 +9,28 @@ pub struct Sent {
     pub frames: Vec<Vec<u8>>,
     pub requests: Vec<LlRequest>,
     pub action: Option<AdvAction>,
+}
+
+/// What a call answered.
+#[derive(Clone, Debug, PartialEq)]
+pub enum Answer {
+    Fresh,
+    Refused(u8),
+    /// How many frames, their bytes one after another, what is asked of the link.
+    Sent {
+        frames: usize,
+        bytes: Vec<u8>,
+        request: Option<LlRequest>,
+    },
+    Done,
+    Action(AdvAction),
+    Time(Option<u64>),
+    Handle(Option<u16>),
+    Result(Option<StepResult>),
+    /// A dump: the answer is the state.
+    State,
+    /// What the oracle never answers.
+    Other(String),
 }
 
 /// A line under way: words and numbers with one space before each.
@@ -77,17 +99,13 @@ impl Line {
         }
     }
 
-    fn sent(&mut self, sent: &Sent) -> &mut Line {
-        let total: usize = sent.frames.iter().map(Vec::len).sum();
-        self.number(sent.frames.len() as u64).number(total as u64);
-        self.hex_of(sent.frames.iter().flatten());
-        assert!(sent.requests.len() <= 1, "more than one link request in a call");
-        match sent.requests.first() {
+    fn request(&mut self, request: Option<LlRequest>) -> &mut Line {
+        match request {
             None => self.word("none"),
             Some(LlRequest::Update { interval, latency, timeout }) => {
-                self.word("update").number(u64::from(*interval)).number(u64::from(*latency)).number(u64::from(*timeout))
+                self.word("update").number(u64::from(interval)).number(u64::from(latency)).number(u64::from(timeout))
             }
-            Some(LlRequest::Terminate { reason }) => self.word("terminate").number(u64::from(*reason)),
+            Some(LlRequest::Terminate { reason }) => self.word("terminate").number(u64::from(reason)),
         }
     }
 
@@ -222,7 +240,7 @@ pub fn step(s: &Step) -> Vec<u8> {
 }
 
 /// Plays the call, or refuses it as 01 would.
-pub fn judge(c: &mut Central, call: &Call) -> (Vec<u8>, Sent) {
+pub fn judge(c: &mut Central, call: &Call) -> (Answer, Sent) {
     let refusal = gate::refusal(c, call);
     if refusal == 0 || refusal == gate::TABLE_FULL {
         return play(c, call);
@@ -230,13 +248,11 @@ pub fn judge(c: &mut Central, call: &Call) -> (Vec<u8>, Sent) {
     if let (7, Some(link)) = (refusal, c.link.as_mut()) {
         link.rx.clear();
     }
-    let mut line = Line::default();
-    line.word(NAMES[usize::from(call.tag())]).number(u64::from(refusal));
-    (line.0, Sent::default())
+    (Answer::Refused(refusal), Sent::default())
 }
 
-/// Plays the call and hands back its line, without the line's end, and what it sent.
-pub fn play(c: &mut Central, call: &Call) -> (Vec<u8>, Sent) {
+/// Plays the call and hands back its answer and what it sent.
+pub fn play(c: &mut Central, call: &Call) -> (Answer, Sent) {
     let mut sent = Sent::default();
     match call {
         Call::Fresh => *c = Central::default(),
@@ -253,39 +269,51 @@ pub fn play(c: &mut Central, call: &Call) -> (Vec<u8>, Sent) {
     }
     sent.frames = c.take_frames();
     sent.requests = c.take_ll_requests();
-    let mut line = Line::default();
-    line.word(NAMES[usize::from(call.tag())]);
-    match call {
-        Call::Fresh => {}
-        Call::Dump => {
-            line.dump(c);
+    let answer = match call {
+        Call::Batch(_) | Call::Timer { .. } | Call::Connected { .. } | Call::Fragment { .. } => {
+            assert!(sent.requests.len() <= 1, "more than one link request in a call");
+            Answer::Sent {
+                frames: sent.frames.len(),
+                bytes: sent.frames.concat(),
+                request: sent.requests.first().copied(),
+            }
         }
         _ => {
-            line.number(0);
-        }
-    }
-    match call {
-        Call::Fresh | Call::Dump | Call::Disconnected { .. } | Call::ScanResponse { .. } => {
             assert!(sent.frames.is_empty() && sent.requests.is_empty());
+            quiet(c, call, &sent)
         }
-        Call::Batch(_) | Call::Timer { .. } | Call::Connected { .. } | Call::Fragment { .. } => {
-            line.sent(&sent);
-        }
-        Call::Advertising { .. } => {
-            line.action(sent.action.expect("set above"));
-        }
-        Call::TimerUs => {
-            line.option(c.timer_us());
-        }
-        Call::ConnectedHandle => {
-            line.option(c.connected_handle().map(u64::from));
-        }
-        Call::Result { index } => {
-            match c.result(*index) {
-                None => line.word("none"),
-                Some(r) => line.result(r),
-            };
-        }
+    };
+    (answer, sent)
+}
+
+/// Of a call that sends nothing over the link.
+fn quiet(c: &Central, call: &Call, sent: &Sent) -> Answer {
+    match call {
+        Call::Fresh => Answer::Fresh,
+        Call::Dump => Answer::State,
+        Call::TimerUs => Answer::Time(c.timer_us()),
+        Call::ConnectedHandle => Answer::Handle(c.connected_handle()),
+        Call::Result { index } => Answer::Result(c.result(*index).cloned()),
+        _ => sent.action.map_or(Answer::Done, Answer::Action),
     }
-    (line.0, sent)
+}
+
+/// The call's line, without its end; a dump's is made of the state that was left.
+pub fn line(call: &Call, answer: &Answer, left: &Central) -> Vec<u8> {
+    let mut line = Line::default();
+    line.word(NAMES[usize::from(call.tag())]);
+    match answer {
+        Answer::Fresh => &mut line,
+        Answer::State => line.dump(left),
+        Answer::Other(what) => line.word(what),
+        Answer::Refused(refusal) => line.number(u64::from(*refusal)),
+        Answer::Done => line.number(0),
+        Answer::Sent { frames, bytes, request } => line.number(0).number(*frames as u64).bytes(bytes).request(*request),
+        Answer::Action(action) => line.number(0).action(*action),
+        Answer::Time(time) => line.number(0).option(*time),
+        Answer::Handle(handle) => line.number(0).option(handle.map(u64::from)),
+        Answer::Result(None) => line.number(0).word("none"),
+        Answer::Result(Some(r)) => line.number(0).result(r),
+    };
+    line.0
 }

@@ -1,5 +1,5 @@
 -- `att_requests::with_range` meets its contract: the bytes are those that `lo` and `hi` ensure.
-use Rattle.base.specs.Bytes.{leBytes}
+use Rattle.bytes.specs.Bytes.{leBytes}
 use borrow.Author.Needs.{needs}
 use Rattle.att_requests.proofs.with_range.Statement.{statement}
 use Rattle.att_requests.proofs.with_range.Tie as tie

@@ -2,9 +2,9 @@
 use mathlib.Core.Path.{_≡_, refl, sym, _∙_}
 use Prim.Native.Nat.{_+_, _*_, _^_}
 use denote.Ref.{now}
-use Rattle.advertising.specs.Ad.{listedPlace, structures}
-use Rattle.advertising.specs.declared.Place.the-variants.{Body, Nothing}
-use Rattle.advertising.proofs.Searches.{any-found}
+use Rattle.adv_data.specs.Ad.{listedPlace, structures}
+use Rattle.adv_data.specs.declared.Place.the-variants.{Body, Nothing}
+use Rattle.adv_data.proofs.Searches.{any-found}
 use borrow.Author.Needs.{needs}
 use Rattle.collector.proofs.barleyrope_find_service.Statement.{statement}
 use Rattle.collector.proofs.barleyrope_find_service.Tie as tie

@@ -4,8 +4,8 @@ use Rattle.link_answers.proofs.mtu_told.Statement.{statement}
 use Rattle.link_answers.proofs.mtu_told.Tie as tie
 use Rattle.link_answers.proofs.mtu_told.Reads as reads
 use Rattle.link_answers.proofs.mtu_told.Lts as lts
-use Rattle.answers.proofs.smaller_mtu.Reads as smaller-mtu-reads
-use Rattle.frames.proofs.number.Reads as number-reads
+use Rattle.link_fields.proofs.smaller_mtu.Reads as smaller-mtu-reads
+use Rattle.link_payload.proofs.number.Reads as number-reads
 use Rattle.link_record.proofs.agreed.Reads as agreed-reads
 use Rattle.script_turns.proofs.end_turn.Reads as end-turn-reads
 

@@ -1,13 +1,13 @@
 use Rattle.att_pdu.specs.Numbers.{opReadRsp}
-use Rattle.turns.specs.World.{World}
-use Rattle.moves.specs.Moves.{valueRead}
+use Rattle.script_rules.specs.World.{World}
+use Rattle.link_rules.specs.Moves.{valueRead}
 use Rattle.link_answers.proofs.AnswerLaws.{some-byte, told-law, not-told}
 use borrow.Author.Needs.{needs}
 use Rattle.link_answers.proofs.value_read.Statement.{statement}
 use Rattle.link_answers.proofs.value_read.Tie as tie
 use Rattle.link_answers.proofs.value_read.Reads as reads
 use Rattle.link_answers.proofs.value_read.Lts as lts
-use Rattle.frames.proofs.byte.Reads as byte-reads
+use Rattle.link_payload.proofs.byte.Reads as byte-reads
 use Rattle.script_turns.proofs.finish_turn.Reads as finish-turn-reads
 
 byte-requires : tie.Need-byte-requires

@@ -1,14 +1,14 @@
 use Rattle.att_pdu.specs.Numbers.{opWriteRsp}
 use Rattle.state.specs.declared.StepStatus.the-variants.{Ok}
-use Rattle.turns.specs.World.{World}
-use Rattle.moves.specs.Moves.{over}
+use Rattle.script_rules.specs.World.{World}
+use Rattle.link_rules.specs.Moves.{over}
 use Rattle.link_answers.proofs.AnswerLaws.{told-law, not-told}
 use borrow.Author.Needs.{needs}
 use Rattle.link_answers.proofs.written.Statement.{statement}
 use Rattle.link_answers.proofs.written.Tie as tie
 use Rattle.link_answers.proofs.written.Reads as reads
 use Rattle.link_answers.proofs.written.Lts as lts
-use Rattle.frames.proofs.byte.Reads as byte-reads
+use Rattle.link_payload.proofs.byte.Reads as byte-reads
 use Rattle.script_turns.proofs.end_turn.Reads as end-turn-reads
 
 byte-requires : tie.Need-byte-requires

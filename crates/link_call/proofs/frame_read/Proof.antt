@@ -1,6 +1,6 @@
 use mathlib.Core.Path.{ap}
 use Rattle.state.specs.Central.{Central}
-use Rattle.turns.specs.World.{onHeld, onState}
+use Rattle.script_rules.specs.World.{onHeld, onState}
 use Rattle.state_core.specs.Reading.{world}
 use Rattle.link_call.proofs.FrameLaws.{may-channel, may-advance, read-done}
 use borrow.Author.Needs.{needs}
@@ -8,8 +8,8 @@ use Rattle.link_call.proofs.frame_read.Statement.{statement}
 use Rattle.link_call.proofs.frame_read.Tie as tie
 use Rattle.link_call.proofs.frame_read.Reads as reads
 use Rattle.link_call.proofs.frame_read.Lts as lts
-use Rattle.fragments.proofs.frame_channel.Reads as frame-channel-reads
-use Rattle.fragments.proofs.frame_length.Reads as frame-length-reads
+use Rattle.link_fragments.proofs.frame_channel.Reads as frame-channel-reads
+use Rattle.link_fragments.proofs.frame_length.Reads as frame-length-reads
 use Rattle.link_call.proofs.on_channel.Reads as on-channel-reads
 use Rattle.link_frames.proofs.with_held.Reads as with-held-reads
 use Rattle.script_run.proofs.advance.Reads as advance-reads

@@ -1,5 +1,5 @@
 use mathlib.Core.Path.{ap}
-use Rattle.turns.specs.World.{Held, onHeld}
+use Rattle.script_rules.specs.World.{Held, onHeld}
 use Rattle.state_core.specs.Reading.{world}
 use Rattle.link_call.proofs.FrameLaws.{gather-may, gather-read, gather-rests}
 use borrow.Author.Needs.{needs}

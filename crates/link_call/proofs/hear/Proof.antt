@@ -5,7 +5,7 @@ use Rattle.link_call.proofs.hear.Statement.{statement}
 use Rattle.link_call.proofs.hear.Tie as tie
 use Rattle.link_call.proofs.hear.Reads as reads
 use Rattle.link_call.proofs.hear.Lts as lts
-use Rattle.fragments.proofs.is_dropped.Reads as is-dropped-reads
+use Rattle.link_fragments.proofs.is_dropped.Reads as is-dropped-reads
 use Rattle.link_call.proofs.gather.Reads as gather-reads
 
 is-dropped-requires : tie.Need-is-dropped-requires

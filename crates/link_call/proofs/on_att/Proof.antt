@@ -1,14 +1,14 @@
 use mathlib.Core.Logic.{⊎-elim, inl, inr}
 use mathlib.Core.Path.{refl}
-use Rattle.att.proofs.AttLaws.{empty, on-value, on-short, on-exchange, on-search, on-access, on-silent, on-later, on-even, on-odd, on-other}
+use Rattle.link_rules.proofs.AttLaws.{empty, on-value, on-short, on-exchange, on-search, on-access, on-silent, on-later, on-even, on-odd, on-other}
 use Rattle.state_core.specs.Reading.{world}
 use borrow.Author.Needs.{needs}
 use Rattle.link_call.proofs.on_att.Statement.{statement}
 use Rattle.link_call.proofs.on_att.Tie as tie
 use Rattle.link_call.proofs.on_att.Reads as reads
 use Rattle.link_call.proofs.on_att.Lts as lts
-use Rattle.frames.proofs.byte.Reads as byte-reads
-use Rattle.frames.proofs.number.Reads as number-reads
+use Rattle.link_payload.proofs.byte.Reads as byte-reads
+use Rattle.link_payload.proofs.number.Reads as number-reads
 use Rattle.link_call.proofs.refuse.Reads as refuse-reads
 use Rattle.link_replies.proofs.exchange.Reads as exchange-reads
 use Rattle.link_replies.proofs.notice.Reads as notice-reads

@@ -6,8 +6,8 @@ use Rattle.link_call.proofs.on_channel.Tie as tie
 use Rattle.link_call.proofs.on_channel.Reads as reads
 use Rattle.link_call.proofs.on_channel.Lts as lts
 use Rattle.link_call.proofs.on_att.Reads as on-att-reads
-use Rattle.replies.proofs.on_signaling.Reads as on-signaling-reads
-use Rattle.replies.proofs.on_smp.Reads as on-smp-reads
+use Rattle.link_signals.proofs.on_signaling.Reads as on-signaling-reads
+use Rattle.link_signals.proofs.on_smp.Reads as on-smp-reads
 
 on-att-requires : tie.Need-on-att-requires
 on-att-requires c κs = search needs

@@ -4,7 +4,7 @@ use Rattle.link_call.proofs.refuse.Statement.{statement}
 use Rattle.link_call.proofs.refuse.Tie as tie
 use Rattle.link_call.proofs.refuse.Reads as reads
 use Rattle.link_call.proofs.refuse.Lts as lts
-use Rattle.replies.proofs.refuse.Reads as refuse-reads
+use Rattle.link_signals.proofs.refuse.Reads as refuse-reads
 
 refuse-requires : tie.Need-refuse-requires
 refuse-requires c κs = search needs

@@ -1,4 +1,4 @@
-use Rattle.characteristic_walk.proofs.CharacteristicLaws.{walked-none, walked-one}
+use Rattle.link_rules.proofs.CharacteristicLaws.{walked-none, walked-one}
 use mathlib.Core.Path.{_∙_}
 use borrow.Author.Needs.{needs}
 use Rattle.link_discovery.proofs.characteristics_done.Statement.{statement}

@@ -1,5 +1,5 @@
-use Rattle.characteristic_walk.proofs.CharacteristicLaws.{heard-none}
-use Rattle.characteristic_walk.specs.Characteristics.{characteristicsHeard}
+use Rattle.link_rules.proofs.CharacteristicLaws.{heard-none}
+use Rattle.link_rules.specs.Characteristics.{characteristicsHeard}
 use mathlib.Core.Path.{ap, sym, _∙_}
 use borrow.Author.Needs.{needs}
 use Rattle.link_discovery.proofs.characteristics_heard.Statement.{statement}

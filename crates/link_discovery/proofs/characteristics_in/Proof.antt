@@ -1,6 +1,6 @@
-use Rattle.characteristic_walk.proofs.CharacteristicLaws.{characteristics-none}
+use Rattle.link_rules.proofs.CharacteristicLaws.{characteristics-none}
 use Rattle.link_discovery.proofs.TableLaws.{characteristics-able, characteristics-go}
-use Rattle.characteristics.proofs.Keeps.{rising-if}
+use Rattle.gatt_characteristics.proofs.Keeps.{rising-if}
 use mathlib.Core.Path.{_∙_}
 use native.Mathlib.Omega.{arith}
 use borrow.Author.Needs.{needs}
@@ -8,7 +8,7 @@ use Rattle.link_discovery.proofs.characteristics_in.Statement.{statemen
 use Rattle.link_discovery.proofs.characteristics_in.Tie as tie
 use Rattle.link_discovery.proofs.characteristics_in.Reads as reads
 use Rattle.link_discovery.proofs.characteristics_in.Lts as lts
-use Rattle.answers.proofs.entries_end.Reads as entries-end-reads
+use Rattle.link_fields.proofs.entries_end.Reads as entries-end-reads
 use Rattle.link_discovery.proofs.characteristics_entered.Reads as characteristics-entered-reads
 use Rattle.script_discovery.proofs.discover_descriptors.Reads as discover-descriptors-reads
 use Rattle.words_characteristic.proofs.take_characteristics.Reads as take-characteristics-reads

@@ -1,5 +1,5 @@
-use Rattle.characteristic_walk.proofs.CharacteristicLaws.{named-none}
-use Rattle.characteristic_walk.specs.Characteristics.{descriptorsHeard}
+use Rattle.link_rules.proofs.CharacteristicLaws.{named-none}
+use Rattle.link_rules.specs.Characteristics.{descriptorsHeard}
 use mathlib.Core.Path.{ap, sym, _∙_}
 use borrow.Author.Needs.{needs}
 use Rattle.link_discovery.proofs.descriptors_heard.Statement.{statement}

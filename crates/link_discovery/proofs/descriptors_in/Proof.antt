@@ -1,7 +1,7 @@
-use Rattle.characteristic_walk.proofs.CharacteristicLaws.{descriptors-none}
+use Rattle.link_rules.proofs.CharacteristicLaws.{descriptors-none}
 use Rattle.link_discovery.proofs.TableLaws.{descriptors-able, descriptors-go}
-use Rattle.answers.proofs.AnswerLaws.{width-two}
-use Rattle.turns.specs.World.{told}
+use Rattle.link_rules.proofs.AnswerLaws.{width-two}
+use Rattle.script_rules.specs.World.{told}
 use mathlib.Core.Path.{_∙_}
 use native.Mathlib.Omega.{arith}
 use borrow.Author.Needs.{needs}
@@ -9,8 +9,8 @@ use Rattle.link_discovery.proofs.descriptors_in.Statement.{statement}
 use Rattle.link_discovery.proofs.descriptors_in.Tie as tie
 use Rattle.link_discovery.proofs.descriptors_in.Reads as reads
 use Rattle.link_discovery.proofs.descriptors_in.Lts as lts
-use Rattle.answers.proofs.entries_end.Reads as entries-end-reads
-use Rattle.answers.proofs.width_of.Reads as width-of-reads
+use Rattle.link_fields.proofs.entries_end.Reads as entries-end-reads
+use Rattle.link_fields.proofs.width_of.Reads as width-of-reads
 use Rattle.link_answers.proofs.after_range.Reads as after-range-reads
 use Rattle.link_discovery.proofs.go_on.Reads as go-on-reads
 use Rattle.words_characteristic.proofs.name_descriptors.Reads as name-descriptors-reads

@@ -1,4 +1,4 @@
-use Rattle.characteristic_walk.proofs.CharacteristicLaws.{more-within, none-within}
+use Rattle.link_rules.proofs.CharacteristicLaws.{more-within, none-within}
 use mathlib.Core.Path.{_∙_}
 use borrow.Author.Needs.{needs}
 use Rattle.link_discovery.proofs.go_on.Statement.{statement}

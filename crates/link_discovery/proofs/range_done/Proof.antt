@@ -1,5 +1,5 @@
-use Rattle.characteristic_walk.proofs.CharacteristicLaws.{range-none, range-one}
-use Rattle.turns.specs.World.{told}
+use Rattle.link_rules.proofs.CharacteristicLaws.{range-none, range-one}
+use Rattle.script_rules.specs.World.{told}
 use mathlib.Core.Path.{_∙_}
 use borrow.Author.Needs.{needs}
 use Rattle.link_discovery.proofs.range_done.Statement.{statement}

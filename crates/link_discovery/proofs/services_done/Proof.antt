@@ -1,4 +1,4 @@
-use Rattle.service_walk.proofs.ServiceLaws.{done-all, done-of}
+use Rattle.link_rules.proofs.ServiceLaws.{done-all, done-of}
 use mathlib.Core.Path.{_∙_}
 use borrow.Author.Needs.{needs}
 use Rattle.link_discovery.proofs.services_done.Statement.{statement}

@@ -1,4 +1,4 @@
-use Rattle.service_walk.proofs.ServiceLaws.{services-none}
+use Rattle.link_rules.proofs.ServiceLaws.{services-none}
 use Rattle.link_discovery.proofs.TableLaws.{services-able, services-go}
 use mathlib.Core.Path.{_∙_}
 use borrow.Author.Needs.{needs}
@@ -6,7 +6,7 @@ use Rattle.link_discovery.proofs.services_heard.Statement.{statement}
 use Rattle.link_discovery.proofs.services_heard.Tie as tie
 use Rattle.link_discovery.proofs.services_heard.Reads as reads
 use Rattle.link_discovery.proofs.services_heard.Lts as lts
-use Rattle.answers.proofs.entries_end.Reads as entries-end-reads
+use Rattle.link_fields.proofs.entries_end.Reads as entries-end-reads
 use Rattle.link_discovery.proofs.services_done.Reads as services-done-reads
 use Rattle.link_discovery.proofs.services_entered.Reads as services-entered-reads
 use Rattle.words_service.proofs.take_services.Reads as take-services-reads

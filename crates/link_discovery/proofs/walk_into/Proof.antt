@@ -1,4 +1,4 @@
-use Rattle.service_walk.proofs.ServiceLaws.{into-none, into-one}
+use Rattle.link_rules.proofs.ServiceLaws.{into-none, into-one}
 use mathlib.Core.Path.{_∙_}
 use borrow.Author.Needs.{needs}
 use Rattle.link_discovery.proofs.walk_into.Statement.{statement}

@@ -4,7 +4,7 @@ use Rattle.link_frames.proofs.gather.Statement.{statement}
 use Rattle.link_frames.proofs.gather.Tie as tie
 use Rattle.link_frames.proofs.gather.Reads as reads
 use Rattle.link_frames.proofs.gather.Lts as lts
-use Rattle.copies.proofs.copy_in.Reads as copy-in-reads
+use Rattle.bytes_copies.proofs.copy_in.Reads as copy-in-reads
 use Rattle.link_frames.proofs.held_before.Reads as held-before-reads
 use Rattle.link_frames.proofs.with_held.Reads as with-held-reads
 

@@ -1,12 +1,12 @@
-use Rattle.fragments.proofs.FragmentLaws.{fits-dropped, fits-law}
+use Rattle.link_rules.proofs.FragmentLaws.{fits-dropped, fits-law}
 use borrow.Author.Needs.{needs}
 use Rattle.link_frames.proofs.held_fits.Statement.{statement}
 use Rattle.link_frames.proofs.held_fits.Tie as tie
 use Rattle.link_frames.proofs.held_fits.Reads as reads
 use Rattle.link_frames.proofs.held_fits.Lts as lts
-use Rattle.fragments.proofs.is_dropped.Reads as is-dropped-reads
+use Rattle.link_fragments.proofs.is_dropped.Reads as is-dropped-reads
 use Rattle.link_frames.proofs.held_before.Reads as held-before-reads
-use Rattle.refusals.proofs.frame_fits.Reads as frame-fits-reads
+use Rattle.state_refusals.proofs.frame_fits.Reads as frame-fits-reads
 
 is-dropped-requires : tie.Need-is-dropped-requires
 is-dropped-requires c κs = search needs

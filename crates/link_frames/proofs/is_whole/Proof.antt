@@ -4,7 +4,7 @@ use Rattle.link_frames.proofs.is_whole.Statement.{statement}
 use Rattle.link_frames.proofs.is_whole.Tie as tie
 use Rattle.link_frames.proofs.is_whole.Reads as reads
 use Rattle.link_frames.proofs.is_whole.Lts as lts
-use Rattle.fragments.proofs.frame_length.Reads as frame-length-reads
+use Rattle.link_fragments.proofs.frame_length.Reads as frame-length-reads
 
 returns : tie.Need-returns
 returns c =

@@ -6,9 +6,9 @@ use contract.Running.{givenOf, tables, tablesOf}
 use denote.Triple.Spec.{tripleOf}
 use denote.Triple.Table.{entered}
 use Rattle.link_record.specs.Record.{opened}
-use Rattle.walks.proofs.Data.{uint}
-use Rattle.walks.proofs.Lit.{number, flag}
-use Rattle.walks.proofs.Renews.{renews}
+use Rattle.link_record_laws.proofs.Data.{uint}
+use Rattle.link_record_laws.proofs.Lit.{number, flag}
+use Rattle.link_record_laws.proofs.Renews.{renews}
 use Rattle.state.proofs.Link as T
 use Rattle.state.proofs.Link.Laws as T′
 use Rattle.link_record.proofs.open.Key.{name}

@@ -5,8 +5,8 @@ use contract.Running.{givenOf, tables, tablesOf}
 use denote.Triple.Spec.{tripleOf}
 use denote.Triple.Table.{entered}
 use Rattle.link_record.specs.Record.{answered}
-use Rattle.walks.proofs.Lit.{number}
-use Rattle.walks.proofs.SetsTo.{sets-to}
+use Rattle.link_record_laws.proofs.Lit.{number}
+use Rattle.link_record_laws.proofs.SetsTo.{sets-to}
 use Rattle.state.proofs.Link as T
 use Rattle.state.proofs.Link.Laws as T′
 use Rattle.link_record.proofs.take_response.Key.{name}

@@ -5,8 +5,8 @@ use contract.Running.{givenOf, tables, tablesOf}
 use denote.Triple.Spec.{tripleOf}
 use denote.Triple.Table.{entered}
 use Rattle.link_record.specs.Record.{terminated}
-use Rattle.walks.proofs.Lit.{flag}
-use Rattle.walks.proofs.SetsTo.{sets-to}
+use Rattle.link_record_laws.proofs.Lit.{flag}
+use Rattle.link_record_laws.proofs.SetsTo.{sets-to}
 use Rattle.state.proofs.Link as T
 use Rattle.state.proofs.Link.Laws as T′
 use Rattle.link_record.proofs.terminate.Key.{name}

@@ -1,11 +1,11 @@
-use Rattle.replies.proofs.ReplyLaws.{confirms, says-nothing}
+use Rattle.link_rules.proofs.ReplyLaws.{confirms, says-nothing}
 use borrow.Author.Needs.{needs}
 use Rattle.link_replies.proofs.confirm.Statement.{statement}
 use Rattle.link_replies.proofs.confirm.Tie as tie
 use Rattle.link_replies.proofs.confirm.Reads as reads
 use Rattle.link_replies.proofs.confirm.Lts as lts
 use Rattle.att_pdu.proofs.confirmation.Reads as confirmation-reads
-use Rattle.turns.proofs.send.Reads as send-reads
+use Rattle.script_sends.proofs.send.Reads as send-reads
 
 confirmation-requires : tie.Need-confirmation-requires
 confirmation-requires c κs = search needs

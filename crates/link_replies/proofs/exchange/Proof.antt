@@ -7,7 +7,7 @@ use Rattle.link_replies.proofs.exchange.Lts as lts
 use Rattle.att_pdu.proofs.exchange_mtu_rsp.Reads as exchange-mtu-rsp-reads
 use Rattle.link_record.proofs.agreed.Reads as agreed-reads
 use Rattle.link_replies.proofs.clamp.Reads as clamp-reads
-use Rattle.turns.proofs.send.Reads as send-reads
+use Rattle.script_sends.proofs.send.Reads as send-reads
 
 exchange-mtu-rsp-requires : tie.Need-exchange-mtu-rsp-requires
 exchange-mtu-rsp-requires c κs = search needs

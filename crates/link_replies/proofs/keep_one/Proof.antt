@@ -4,8 +4,8 @@ use Rattle.link_replies.proofs.keep_one.Statement.{statement}
 use Rattle.link_replies.proofs.keep_one.Tie as tie
 use Rattle.link_replies.proofs.keep_one.Reads as reads
 use Rattle.link_replies.proofs.keep_one.Lts as lts
-use Rattle.notices.proofs.note.Reads as note-reads
-use Rattle.waits.proofs.keep_value.Reads as keep-value-reads
+use Rattle.link_notices.proofs.note.Reads as note-reads
+use Rattle.notifications.proofs.keep_value.Reads as keep-value-reads
 use Rattle.words_notification.proofs.keep.Reads as keep-reads
 
 keep-value-requires : tie.Need-keep-value-requires

@@ -4,7 +4,7 @@ use Rattle.link_replies.proofs.notice.Statement.{statement}
 use Rattle.link_replies.proofs.notice.Tie as tie
 use Rattle.link_replies.proofs.notice.Reads as reads
 use Rattle.link_replies.proofs.notice.Lts as lts
-use Rattle.frames.proofs.number.Reads as number-reads
+use Rattle.link_payload.proofs.number.Reads as number-reads
 use Rattle.link_replies.proofs.confirm.Reads as confirm-reads
 use Rattle.link_replies.proofs.keep_one.Reads as keep-one-reads
 use Rattle.script_wait.proofs.check_wait.Reads as check-wait-reads

@@ -6,7 +6,7 @@ use Rattle.link_responses.proofs.on_response.Statement.{statement}
 use Rattle.link_responses.proofs.on_response.Tie as tie
 use Rattle.link_responses.proofs.on_response.Reads as reads
 use Rattle.link_responses.proofs.on_response.Lts as lts
-use Rattle.answers.proofs.counts.Reads as counts-reads
+use Rattle.link_fields.proofs.counts.Reads as counts-reads
 use Rattle.link_answers.proofs.unask.Reads as unask-reads
 use Rattle.link_responses.proofs.taken.Reads as taken-reads
 

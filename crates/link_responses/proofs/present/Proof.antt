@@ -5,7 +5,7 @@ use Rattle.link_responses.proofs.present.Statement.{statement}
 use Rattle.link_responses.proofs.present.Tie as tie
 use Rattle.link_responses.proofs.present.Reads as reads
 use Rattle.link_responses.proofs.present.Lts as lts
-use Rattle.frames.proofs.byte.Reads as byte-reads
+use Rattle.link_payload.proofs.byte.Reads as byte-reads
 use Rattle.link_answers.proofs.mtu_told.Reads as mtu-told-reads
 use Rattle.link_answers.proofs.value_read.Reads as value-read-reads
 use Rattle.link_answers.proofs.written.Reads as written-reads

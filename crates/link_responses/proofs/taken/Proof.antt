@@ -6,10 +6,10 @@ use Rattle.link_responses.proofs.taken.Statement.{statement}
 use Rattle.link_responses.proofs.taken.Tie as tie
 use Rattle.link_responses.proofs.taken.Reads as reads
 use Rattle.link_responses.proofs.taken.Lts as lts
-use Rattle.frames.proofs.byte.Reads as byte-reads
+use Rattle.link_payload.proofs.byte.Reads as byte-reads
 use Rattle.link_responses.proofs.failed.Reads as failed-reads
 use Rattle.link_responses.proofs.present.Reads as present-reads
-use Rattle.questions.proofs.asked_by.Reads as asked-by-reads
+use Rattle.link_questions.proofs.asked_by.Reads as asked-by-reads
 
 asked-by-requires : tie.Need-asked-by-requires
 asked-by-requires c κs = search needs

@@ -4,12 +4,12 @@ use Rattle.radio_calls.proofs.keep.Statement.{statement}
 use Rattle.radio_calls.proofs.keep.Tie as tie
 use Rattle.radio_calls.proofs.keep.Reads as reads
 use Rattle.radio_calls.proofs.keep.Lts as lts
-use Rattle.hearing.proofs.narrow.Reads as narrow-reads
+use Rattle.radio_rules.proofs.narrow.Reads as narrow-reads
 use Rattle.radio_calls.proofs.kept_response.Reads as kept-response-reads
 use Rattle.radio_calls.proofs.put_line.Reads as put-line-reads
-use Rattle.report_tables.proofs.counted.Reads as counted-reads
-use Rattle.report_tables.proofs.last_place.Reads as last-place-reads
-use Rattle.report_tables.proofs.put_block.Reads as put-block-reads
+use Rattle.adv_report_tables.proofs.counted.Reads as counted-reads
+use Rattle.adv_report_tables.proofs.last_place.Reads as last-place-reads
+use Rattle.adv_report_tables.proofs.put_block.Reads as put-block-reads
 use Rattle.words_report.proofs.find_report.Reads as find-report-reads
 
 find-report-requires : tie.Need-find-report-requires

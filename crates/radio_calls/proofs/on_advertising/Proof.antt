@@ -1,6 +1,6 @@
 use mathlib.Core.Path.{refl}
 use native.Mathlib.Omega.{arith}
-use Rattle.hearing.specs.Hearing.{adv}
+use Rattle.radio_rules.specs.Hearing.{adv}
 use Rattle.state_core.specs.Reading.{central}
 use Rattle.radio_calls.specs.Kept.{reportsIn}
 use Rattle.radio_calls.proofs.AdvertisingLaws.{told, going-of, refused-law, open-law, open-passed, quiet-law, full-law, key-place, put-asked, put-chosen, store-length}
@@ -9,14 +9,14 @@ use Rattle.radio_calls.proofs.on_advertising.Statement.{statement}
 use Rattle.radio_calls.proofs.on_advertising.Tie as tie
 use Rattle.radio_calls.proofs.on_advertising.Reads as reads
 use Rattle.radio_calls.proofs.on_advertising.Lts as lts
-use Rattle.hearing.proofs.keys_full.Reads as keys-full-reads
-use Rattle.hearing.proofs.then_data.Reads as then-data-reads
-use Rattle.matching.proofs.choose.Reads as choose-reads
-use Rattle.matching.proofs.is_asking.Reads as is-asking-reads
-use Rattle.matching.proofs.is_listening.Reads as is-listening-reads
+use Rattle.radio_rules.proofs.keys_full.Reads as keys-full-reads
+use Rattle.radio_rules.proofs.then_data.Reads as then-data-reads
+use Rattle.radio_match.proofs.choose.Reads as choose-reads
+use Rattle.radio_match.proofs.is_asking.Reads as is-asking-reads
+use Rattle.radio_match.proofs.is_listening.Reads as is-listening-reads
 use Rattle.radio_calls.proofs.keep.Reads as keep-reads
 use Rattle.radio_calls.proofs.unchanged.Reads as unchanged-reads
-use Rattle.reports.proofs.key_of.Reads as key-of-reads
+use Rattle.adv_reports.proofs.key_of.Reads as key-of-reads
 use Rattle.state_fit.proofs.gate_quiet.Reads as gate-quiet-reads
 use Rattle.words_report.proofs.is_due.Reads as is-due-reads
 use Rattle.words_report.proofs.put_key.Reads as put-key-reads

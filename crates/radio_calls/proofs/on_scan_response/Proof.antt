@@ -6,10 +6,10 @@ use Rattle.radio_calls.proofs.on_scan_response.Statement.{statement}
 use Rattle.radio_calls.proofs.on_scan_response.Tie as tie
 use Rattle.radio_calls.proofs.on_scan_response.Reads as reads
 use Rattle.radio_calls.proofs.on_scan_response.Lts as lts
-use Rattle.hearing.proofs.narrow.Reads as narrow-reads
-use Rattle.hearing.proofs.then_data.Reads as then-data-reads
-use Rattle.reports.proofs.key_of.Reads as key-of-reads
-use Rattle.reports.proofs.put_response.Reads as put-response-reads
+use Rattle.radio_rules.proofs.narrow.Reads as narrow-reads
+use Rattle.radio_rules.proofs.then_data.Reads as then-data-reads
+use Rattle.adv_reports.proofs.key_of.Reads as key-of-reads
+use Rattle.adv_reports.proofs.put_response.Reads as put-response-reads
 use Rattle.state_fit.proofs.gate_quiet.Reads as gate-quiet-reads
 use Rattle.words_report.proofs.find_report.Reads as find-report-reads
 use Rattle.words_report.proofs.put_report.Reads as put-report-reads

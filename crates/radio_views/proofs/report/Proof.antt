@@ -5,10 +5,10 @@ use Rattle.radio_views.proofs.report.Statement.{statement}
 use Rattle.radio_views.proofs.report.Tie as tie
 use Rattle.radio_views.proofs.report.Reads as reads
 use Rattle.radio_views.proofs.report.Lts as lts
-use Rattle.places.proofs.report_at.Reads as report-at-reads
+use Rattle.state_places.proofs.report_at.Reads as report-at-reads
 use Rattle.radio_views.proofs.response_in.Reads as response-in-reads
 use Rattle.radio_views.proofs.wide.Reads as wide-reads
-use Rattle.reports.proofs.address_of.Reads as address-of-reads
+use Rattle.adv_reports.proofs.address_of.Reads as address-of-reads
 use Rattle.state_fit.proofs.gate_reader.Reads as gate-reader-reads
 use Rattle.words_report.proofs.report_at.Reads as report-at-reads′
 

@@ -1,14 +1,14 @@
 use lib.ListN.{length}
 use Rattle.uuid.specs.Value.{num}
-use Rattle.sights.specs.View.{view}
-use Rattle.sights.specs.ViewLaws.{body-told}
+use Rattle.radio_sights.specs.View.{view}
+use Rattle.radio_sights.proofs.ViewLaws.{body-told}
 use Rattle.state_core.specs.Reading.{central}
 use borrow.Author.Needs.{needs}
 use Rattle.radio_views.proofs.report_body.Statement.{statement}
 use Rattle.radio_views.proofs.report_body.Tie as tie
 use Rattle.radio_views.proofs.report_body.Reads as reads
 use Rattle.radio_views.proofs.report_body.Lts as lts
-use Rattle.listing.proofs.listed_body.Reads as listed-body-reads
+use Rattle.adv_listing.proofs.listed_body.Reads as listed-body-reads
 use Rattle.radio_views.proofs.report_data.Reads as report-data-reads
 use Rattle.radio_views.proofs.report_response.Reads as report-response-reads
 

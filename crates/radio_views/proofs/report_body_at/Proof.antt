@@ -9,8 +9,8 @@ use Rattle.radio_views.proofs.report_body_at.Reads as reads
 use Rattle.radio_views.proofs.report_body_at.Lts as lts
 use Rattle.radio_views.proofs.body_in.Reads as body-in-reads
 use Rattle.radio_views.proofs.report.Reads as report-reads
-use Rattle.sights.proofs.answer_in.Reads as answer-in-reads
-use Rattle.sights.proofs.data_in.Reads as data-in-reads
+use Rattle.radio_sights.proofs.answer_in.Reads as answer-in-reads
+use Rattle.radio_sights.proofs.data_in.Reads as data-in-reads
 
 report-requires : tie.Need-report-requires
 report-requires c κs = search needs

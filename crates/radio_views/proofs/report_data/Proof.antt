@@ -1,6 +1,6 @@
 use native.Mathlib.Omega.{arith}
 use lib.ListN.{length}
-use Rattle.sights.specs.View.{dataIn}
+use Rattle.radio_sights.specs.View.{dataIn}
 use Rattle.radio_views.proofs.ViewLaws.{data-inside, part-as}
 use borrow.Author.Needs.{needs}
 use Rattle.radio_views.proofs.report_data.Statement.{statement}
@@ -8,7 +8,7 @@ use Rattle.radio_views.proofs.report_data.Tie as tie
 use Rattle.radio_views.proofs.report_data.Reads as reads
 use Rattle.radio_views.proofs.report_data.Lts as lts
 use Rattle.radio_views.proofs.report.Reads as report-reads
-use Rattle.sights.proofs.data_in.Reads as data-in-reads
+use Rattle.radio_sights.proofs.data_in.Reads as data-in-reads
 
 report-requires : tie.Need-report-requires
 report-requires c κs = search needs

@@ -1,6 +1,6 @@
 use native.Mathlib.Omega.{arith}
 use lib.ListN.{length}
-use Rattle.sights.specs.View.{answerIn}
+use Rattle.radio_sights.specs.View.{answerIn}
 use Rattle.radio_views.proofs.ViewLaws.{answer-inside, part-as}
 use borrow.Author.Needs.{needs}
 use Rattle.radio_views.proofs.report_response.Statement.{statement}
@@ -8,7 +8,7 @@ use Rattle.radio_views.proofs.report_response.Tie as tie
 use Rattle.radio_views.proofs.report_response.Reads as reads
 use Rattle.radio_views.proofs.report_response.Lts as lts
 use Rattle.radio_views.proofs.report.Reads as report-reads
-use Rattle.sights.proofs.answer_in.Reads as answer-in-reads
+use Rattle.radio_sights.proofs.answer_in.Reads as answer-in-reads
 
 report-requires : tie.Need-report-requires
 report-requires c κs = search needs

@@ -1,11 +1,11 @@
-use Rattle.places.specs.Sizes.{dataSize}
+use Rattle.state_places.specs.Sizes.{dataSize}
 use borrow.Author.Tests.{le-leb, lt-leb}
 use borrow.Author.Needs.{needs}
 use Rattle.radio_views.proofs.response_in.Statement.{statement}
 use Rattle.radio_views.proofs.response_in.Tie as tie
 use Rattle.radio_views.proofs.response_in.Reads as reads
 use Rattle.radio_views.proofs.response_in.Lts as lts
-use Rattle.places.proofs.response_at.Reads as response-at-reads
+use Rattle.state_places.proofs.response_at.Reads as response-at-reads
 use Rattle.radio_views.proofs.wide.Reads as wide-reads
 
 returns : tie.Need-returns

@@ -7,7 +7,7 @@ use Rattle.radio_views.proofs.search_in.Statement.{statement}
 use Rattle.radio_views.proofs.search_in.Tie as tie
 use Rattle.radio_views.proofs.search_in.Reads as reads
 use Rattle.radio_views.proofs.search_in.Lts as lts
-use Rattle.advertising.proofs.search.Reads as search-reads
+use Rattle.adv_data.proofs.search.Reads as search-reads
 
 add-to : tie.Need-add-to
 add-to c = search needs

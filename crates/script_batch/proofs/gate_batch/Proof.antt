@@ -1,12 +1,12 @@
 use Rattle.state_core.specs.Reading.{central}
-use Rattle.batch.proofs.FitLaws.{gate-shared, gate-bad, gate-counts, gate-full, gate-open}
+use Rattle.script_rules.proofs.FitLaws.{gate-shared, gate-bad, gate-counts, gate-full, gate-open}
 use borrow.Author.Needs.{needs}
 use Rattle.script_batch.proofs.gate_batch.Statement.{statement}
 use Rattle.script_batch.proofs.gate_batch.Tie as tie
 use Rattle.script_batch.proofs.gate_batch.Reads as reads
 use Rattle.script_batch.proofs.gate_batch.Lts as lts
-use Rattle.batches.proofs.batch_fits.Reads as batch-fits-reads
-use Rattle.batches.proofs.counters_fit.Reads as counters-fit-reads
+use Rattle.script_limits.proofs.batch_fits.Reads as batch-fits-reads
+use Rattle.script_limits.proofs.counters_fit.Reads as counters-fit-reads
 use Rattle.state_fit.proofs.gate.Reads as gate-reads
 
 gate-requires : tie.Need-gate-requires

@@ -1,8 +1,8 @@
 use mathlib.Core.Path.{ap, _∙_}
 use native.Mathlib.Omega.{arith}
 use lib.ListN.{length}
-use Rattle.att_pdu.specs.PduLaws.{length-readByTypeReq}
-use Rattle.discovery.proofs.DiscoveryLaws.{room-seven, past-end, at-zero, within-end}
+use Rattle.att_pdu.proofs.PduLaws.{length-readByTypeReq}
+use Rattle.script_rules.proofs.DiscoveryLaws.{room-seven, past-end, at-zero, within-end}
 use Rattle.script_discovery.proofs.DiscoveryLaws.{asked-thus, may-ask}
 use borrow.Author.Needs.{needs}
 use Rattle.script_discovery.proofs.discover_characteristics.Statement.{statement}

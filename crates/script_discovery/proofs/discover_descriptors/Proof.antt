@@ -1,8 +1,8 @@
 use mathlib.Core.Path.{ap, _∙_}
 use native.Mathlib.Omega.{arith}
 use lib.ListN.{length}
-use Rattle.att_pdu.specs.PduLaws.{length-findInformationReq}
-use Rattle.discovery.proofs.DiscoveryLaws.{room-seven}
+use Rattle.att_pdu.proofs.PduLaws.{length-findInformationReq}
+use Rattle.script_rules.proofs.DiscoveryLaws.{room-seven}
 use Rattle.script_discovery.proofs.DiscoveryLaws.{asked-thus, may-ask, none-left, some-left}
 use borrow.Author.Needs.{needs}
 use Rattle.script_discovery.proofs.discover_descriptors.Statement.{statement}

@@ -1,7 +1,7 @@
 use mathlib.Core.Path.{ap, _∙_}
 use native.Mathlib.Omega.{arith}
 use lib.ListN.{length}
-use Rattle.att_pdu.specs.PduLaws.{length-readByGroupTypeReq}
+use Rattle.att_pdu.proofs.PduLaws.{length-readByGroupTypeReq}
 use Rattle.script_discovery.proofs.DiscoveryLaws.{asked-thus, may-ask, services-asked}
 use borrow.Author.Needs.{needs}
 use Rattle.script_discovery.proofs.discover_services.Statement.{statement}

@@ -7,7 +7,7 @@ use Rattle.script_events.proofs.expire.Lts as lts
 use Rattle.script_run.proofs.advance.Reads as advance-reads
 use Rattle.script_events.proofs.timed_out.Reads as timed-out-reads
 use Rattle.script_turns.proofs.end_turn.Reads as end-turn-reads
-use Rattle.timeouts.proofs.is_due.Reads as is-due-reads
+use Rattle.script_timeouts.proofs.is_due.Reads as is-due-reads
 
 is-due-requires : tie.Need-is-due-requires
 is-due-requires c κs = search needs

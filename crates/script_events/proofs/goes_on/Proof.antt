@@ -3,7 +3,7 @@ use Rattle.script_events.proofs.goes_on.Statement.{statement}
 use Rattle.script_events.proofs.goes_on.Tie as tie
 use Rattle.script_events.proofs.goes_on.Reads as reads
 use Rattle.script_events.proofs.goes_on.Lts as lts
-use Rattle.kinds.proofs.is_kind.Reads as is-kind-reads
+use Rattle.state_kinds.proofs.is_kind.Reads as is-kind-reads
 
 is-kind-requires : tie.Need-is-kind-requires
 is-kind-requires c κs = search needs

@@ -4,7 +4,7 @@ use Rattle.script_events.proofs.greet.Statement.{statement}
 use Rattle.script_events.proofs.greet.Tie as tie
 use Rattle.script_events.proofs.greet.Reads as reads
 use Rattle.script_events.proofs.greet.Lts as lts
-use Rattle.kinds.proofs.is_kind.Reads as is-kind-reads
+use Rattle.state_kinds.proofs.is_kind.Reads as is-kind-reads
 use Rattle.script_turns.proofs.end.Reads as end-reads
 
 is-kind-requires : tie.Need-is-kind-requires

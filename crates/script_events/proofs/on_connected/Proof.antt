@@ -1,8 +1,8 @@
 use mathlib.Core.Path.{refl}
 use Rattle.script_events.proofs.GateLaws.{call-begins, call-done, call-refused}
-use Rattle.comings.specs.Comings.{connect}
-use Rattle.events.specs.Events.{onConnected}
-use Rattle.turns.specs.World.{World}
+use Rattle.script_rules.specs.Comings.{connect}
+use Rattle.script_rules.specs.Events.{onConnected}
+use Rattle.script_rules.specs.World.{World}
 use borrow.Author.Needs.{needs}
 use Rattle.script_events.proofs.on_connected.Statement.{statement}
 use Rattle.script_events.proofs.on_connected.Tie as tie

@@ -1,8 +1,8 @@
 use mathlib.Core.Path.{refl}
 use Rattle.script_events.proofs.GateLaws.{quiet-begins, quiet-done, quiet-refused}
-use Rattle.comings.specs.Comings.{lose}
-use Rattle.events.specs.Events.{onDisconnected}
-use Rattle.turns.specs.World.{Held}
+use Rattle.script_rules.specs.Comings.{lose}
+use Rattle.script_rules.specs.Events.{onDisconnected}
+use Rattle.script_rules.specs.World.{Held}
 use borrow.Author.Needs.{needs}
 use Rattle.script_events.proofs.on_disconnected.Statement.{statement}
 use Rattle.script_events.proofs.on_disconnected.Tie as tie

@@ -1,8 +1,8 @@
 use mathlib.Core.Path.{refl}
 use Rattle.script_events.proofs.GateLaws.{call-begins, call-done, call-refused}
-use Rattle.comings.specs.Comings.{expire}
-use Rattle.events.specs.Events.{onTimer}
-use Rattle.turns.specs.World.{World}
+use Rattle.script_rules.specs.Comings.{expire}
+use Rattle.script_rules.specs.Events.{onTimer}
+use Rattle.script_rules.specs.World.{World}
 use borrow.Author.Needs.{needs}
 use Rattle.script_events.proofs.on_timer.Statement.{statement}
 use Rattle.script_events.proofs.on_timer.Tie as tie

@@ -5,7 +5,7 @@ use Rattle.script_events.proofs.timed_out.Statement.{statement}
 use Rattle.script_events.proofs.timed_out.Tie as tie
 use Rattle.script_events.proofs.timed_out.Reads as reads
 use Rattle.script_events.proofs.timed_out.Lts as lts
-use Rattle.kinds.proofs.is_kind.Reads as is-kind-reads
+use Rattle.state_kinds.proofs.is_kind.Reads as is-kind-reads
 
 is-kind-requires : tie.Need-is-kind-requires
 is-kind-requires c κs = search needs

@@ -4,9 +4,8 @@ use Rattle.script_queue.proofs.push_one.Statement.{statement}
 use Rattle.script_queue.proofs.push_one.Tie as tie
 use Rattle.script_queue.proofs.push_one.Reads as reads
 use Rattle.script_queue.proofs.push_one.Lts as lts
-use Rattle.copies.proofs.copy_in.Reads as copy-in-reads
-use Rattle.places.proofs.waiting_at.Reads as waiting-at-reads
-use Rattle.script_queue.proofs.refuse.Reads as refuse-reads
+use Rattle.bytes_copies.proofs.copy_in.Reads as copy-in-reads
+use Rattle.state_places.proofs.waiting_at.Reads as waiting-at-reads
 use Rattle.script_queue.proofs.value_len.Reads as value-len-reads
 use Rattle.words_step.proofs.put_step.Reads as put-step-reads
 
@@ -25,8 +24,8 @@ cast-put-step c = search needs
 put-step-requires : tie.Need-put-step-requires
 put-step-requires c κs = search needs
 
-add-counts : tie.Need-add-counts
-add-counts c = search needs
+add-waiting : tie.Need-add-waiting
+add-waiting c = search needs
 
 same-length : tie.Need-same-length
 same-length c = search needs
@@ -34,11 +33,11 @@ same-length c = search needs
 returns : tie.Need-returns
 returns c = pushed-in _ _ _ _ _ _ _ _ _ ((c .before .before .before .before .before .before .before .before .if1 .taken)) ((c .before .before .before .before .before .before .before .value-len .ensures)) ((c .before .before .before .before .before .before .waiting-at .ensures)) ((c .before .before .before .before .copy-in .ensures)) ((c .put-step .ensures))
 
-refuse-requires : tie.Need-refuse-requires
-refuse-requires c κs = search needs
+add-more : tie.Need-add-more
+add-more c = search needs
 
 returns-2 : tie.Need-returns-2
-returns-2 c = pushed-over _ _ _ _ _ _ ((c .before .before .if1 .left)) ((c .refuse .ensures))
+returns-2 c = pushed-over _ _ _ _ _ ((c .if1 .left))
 
 pub push-one-spec : {M : Type 1} → statement M
 push-one-spec =
@@ -49,8 +48,8 @@ push-one-spec =
     copy-in-requires
     cast-put-step
     put-step-requires
-    add-counts
+    add-waiting
     same-length
     returns
-    refuse-requires
+    add-more
     returns-2)

@@ -4,7 +4,7 @@ use Rattle.script_queue.proofs.take_step.Statement.{statement}
 use Rattle.script_queue.proofs.take_step.Tie as tie
 use Rattle.script_queue.proofs.take_step.Reads as reads
 use Rattle.script_queue.proofs.take_step.Lts as lts
-use Rattle.copies.proofs.copy_within.Reads as copy-within-reads
+use Rattle.bytes_copies.proofs.copy_within.Reads as copy-within-reads
 use Rattle.script_queue.proofs.start.Reads as start-reads
 use Rattle.words_step.proofs.queued_at.Reads as queued-at-reads
 use Rattle.words_step.proofs.shift_steps.Reads as shift-steps-reads

@@ -3,7 +3,7 @@ use Rattle.script_queue.proofs.value_len.Statement.{statement}
 use Rattle.script_queue.proofs.value_len.Tie as tie
 use Rattle.script_queue.proofs.value_len.Reads as reads
 use Rattle.script_queue.proofs.value_len.Lts as lts
-use Rattle.kinds.proofs.carries.Reads as carries-reads
+use Rattle.state_kinds.proofs.carries.Reads as carries-reads
 
 carries-requires : tie.Need-carries-requires
 carries-requires c κs = search needs

@@ -2,9 +2,9 @@ use mathlib.Core.Path.{_≡_, refl, sym, _∙_}
 use mathlib.Core.List.{[]}
 use lib.ListN.{length}
 use borrow.Author.Needs.{needs}
-use Rattle.keeps.specs.Sound.{Sound}
-use Rattle.script.specs.Script.{advance}
-use Rattle.script.proofs.AdvanceLaws.{again, done}
+use Rattle.script_rules.specs.Sound.{Sound}
+use Rattle.script_rules.specs.Script.{advance}
+use Rattle.script_rules.proofs.AdvanceLaws.{again, done}
 use Rattle.state_core.specs.Reading.{world}
 use borrow.Author.Needs.{needs}
 use Rattle.script_run.proofs.advance.Statement.{statement}

@@ -1,8 +1,8 @@
 use mathlib.Core.Path.{_≡_, refl, sym, _∙_}
 use mathlib.Core.List.{[]}
-use Rattle.keeps.specs.Sound.{Whole}
-use Rattle.script.specs.Script.{advanceUnlinked}
-use Rattle.script.proofs.AdvanceLaws.{again-alone, done-alone}
+use Rattle.script_rules.specs.Sound.{Whole}
+use Rattle.script_rules.specs.Script.{advanceUnlinked}
+use Rattle.script_rules.proofs.AdvanceLaws.{again-alone, done-alone}
 use Rattle.state_core.specs.Reading.{held}
 use Rattle.script_run.proofs.advance_unlinked.Statement.{statement}
 use Rattle.script_run.proofs.advance_unlinked.Tie as tie

@@ -1,5 +1,5 @@
 use mathlib.Core.Path.{sym, ap}
-use Rattle.starts.specs.Start.{unlinkedStep}
+use Rattle.script_rules.specs.Start.{unlinkedStep}
 use borrow.Author.Needs.{needs}
 use Rattle.script_starts.proofs.alone_with.Statement.{statement}
 use Rattle.script_starts.proofs.alone_with.Tie as tie

@@ -1,7 +1,7 @@
 use mathlib.Core.Path.{ap, _∙_}
-use Rattle.starts.specs.Start.{discoverIn}
-use Rattle.starts.proofs.BeginLaws.{begin-scan, begin-connect, begin-mtu, begin-services, begin-characteristics, begin-subscribe}
-use Rattle.starts.proofs.BeginLaws.{begin-write, begin-read, begin-notification, begin-wait, begin-disconnect, begin-capture, begin-secrets, write-fits}
+use Rattle.script_rules.specs.Start.{discoverIn}
+use Rattle.script_rules.proofs.BeginLaws.{begin-scan, begin-connect, begin-mtu, begin-services, begin-characteristics, begin-subscribe}
+use Rattle.script_rules.proofs.BeginLaws.{begin-write, begin-read, begin-notification, begin-wait, begin-disconnect, begin-capture, begin-secrets, write-fits}
 use borrow.Author.Needs.{needs}
 use Rattle.script_starts.proofs.start_linked.Statement.{statement}
 use Rattle.script_starts.proofs.start_linked.Tie as tie

@@ -1,11 +1,11 @@
-use Rattle.turns.proofs.FinishLaws.{value-room, value-full}
+use Rattle.script_rules.proofs.FinishLaws.{value-room, value-full}
 use borrow.Author.Needs.{needs}
 use Rattle.script_turns.proofs.keep_value.Statement.{statement}
 use Rattle.script_turns.proofs.keep_value.Tie as tie
 use Rattle.script_turns.proofs.keep_value.Reads as reads
 use Rattle.script_turns.proofs.keep_value.Lts as lts
-use Rattle.copies.proofs.copy_within.Reads as copy-within-reads
-use Rattle.places.proofs.result_at.Reads as result-at-reads
+use Rattle.bytes_copies.proofs.copy_within.Reads as copy-within-reads
+use Rattle.state_places.proofs.result_at.Reads as result-at-reads
 
 result-at-requires : tie.Need-result-at-requires
 result-at-requires c κs = search needs

@@ -5,7 +5,7 @@ use Rattle.script_turns.proofs.request.Tie as tie
 use Rattle.script_turns.proofs.request.Reads as reads
 use Rattle.script_turns.proofs.request.Lts as lts
 use Rattle.script_turns.proofs.asked.Reads as asked-reads
-use Rattle.turns.proofs.send.Reads as send-reads
+use Rattle.script_sends.proofs.send.Reads as send-reads
 
 shared-slice-read-opcode : tie.Need-shared-slice-read-opcode
 shared-slice-read-opcode c = search needs

@@ -1,5 +1,5 @@
 use mathlib.Core.Path.{sym, ap}
-use Rattle.starts.specs.Wait.{awaited}
+use Rattle.script_rules.specs.Wait.{awaited}
 use borrow.Author.Needs.{needs}
 use Rattle.script_wait.proofs.awaited_by.Statement.{statement}
 use Rattle.script_wait.proofs.awaited_by.Tie as tie

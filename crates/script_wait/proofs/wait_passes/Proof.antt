@@ -4,7 +4,7 @@ use Rattle.script_wait.proofs.wait_passes.Statement.{statement}
 use Rattle.script_wait.proofs.wait_passes.Tie as tie
 use Rattle.script_wait.proofs.wait_passes.Reads as reads
 use Rattle.script_wait.proofs.wait_passes.Lts as lts
-use Rattle.waits.proofs.skipped.Reads as skipped-reads
+use Rattle.notifications.proofs.skipped.Reads as skipped-reads
 use Rattle.words_notification.proofs.wait_passes.Reads as wait-passes-reads
 
 skipped-requires : tie.Need-skipped-requires

@@ -1,15 +1,27 @@
 use mathlib.Core.Path.{_∙_}
+use Rattle.state_fit.proofs.FitLaws.{refused-core, counts-fit, all-fit}
 use borrow.Author.Needs.{needs}
 use Rattle.state_fit.proofs.gate_quiet.Statement.{statement}
 use Rattle.state_fit.proofs.gate_quiet.Tie as tie
 use Rattle.state_fit.proofs.gate_quiet.Reads as reads
 use Rattle.state_fit.proofs.gate_quiet.Lts as lts
-use Rattle.refusals.proofs.first_refusal.Reads as first-refusal-reads
-use Rattle.state_fit.proofs.is_fit.Reads as is-fit-reads
+use Rattle.state_refusals.proofs.first_refusal.Reads as first-refusal-reads
+use Rattle.state_fit.proofs.core_fits.Reads as core-fits-reads
+use Rattle.state_fit.proofs.tables_fit.Reads as tables-fit-reads
 use Rattle.time.proofs.too_late.Reads as too-late-reads
 
-is-fit-requires : tie.Need-is-fit-requires
-is-fit-requires c κs = search needs
+core-fits-requires : tie.Need-core-fits-requires
+core-fits-requires c κs = search needs
+
+returns : tie.Need-returns
+returns c =
+    let a = (c .before .before .args) in
+    refused-core (a .c) (a .tables .now) _ _ _ (c .before .core-fits .ensures) (c .if1 .taken)
+
+tables-fit-requires : tie.Need-tables-fit-requires
+tables-fit-requires c κs =
+    let a = (c .before .before .before .args) in
+    counts-fit (a .c) _ (c .before .before .core-fits .ensures) (c .before .if1 .left)
 
 too-late-requires : tie.Need-too-late-requires
 too-late-requires c κs = search needs
@@ -17,9 +29,19 @@ too-late-requires c κs = search needs
 first-refusal-requires : tie.Need-first-refusal-requires
 first-refusal-requires c κs = search needs
 
-returns : tie.Need-returns
-returns c = (c .first-refusal .ensures) ∙ rw ((c .before .before .is-fit .ensures), (c .before .too-late .ensures))
+returns-2 : tie.Need-returns-2
+returns-2 c =
+    let a = (c .before .before .before .before .before .before .args) in
+    let fit = all-fit (a .c) _ (c .before .before .before .before .before .core-fits .ensures) (c .before .before .before .before .if1 .left) (a .tables .now) _ (c .before .before .tables-fit .ensures) in
+    (c .first-refusal .ensures) ∙ rw (fit, (c .before .too-late .ensures))
 
 pub gate-quiet-spec : {M : Type 1} → statement M
 gate-quiet-spec =
-    tie.close (tie.spec is-fit-requires too-late-requires first-refusal-requires returns)
+    tie.close
+    (tie.spec
+    core-fits-requires
+    returns
+    tables-fit-requires
+    too-late-requires
+    first-refusal-requires
+    returns-2)

@@ -1,7 +1,7 @@
 use mathlib.Core.Path.{refl}
 use lib.ListN.{length}
 use Rattle.state_core.specs.Reading.{central}
-use Rattle.readers.specs.ReaderLaws.{handle-refused, handle-told}
+use Rattle.state_readers.proofs.ReaderLaws.{handle-refused, handle-told}
 use borrow.Author.Needs.{needs}
 use Rattle.state_readers.proofs.connected_handle.Statement.{statement}
 use Rattle.state_readers.proofs.connected_handle.Tie as tie

@@ -2,17 +2,17 @@ use Prim.Native.Nat.{_≤_, _-_}
 use mathlib.Core.Path.{_≡_, refl}
 use native.Mathlib.Omega.{arith}
 use lib.ListN.{take, drop}
-use Rattle.readers.specs.Readers.{given}
-use Rattle.readers.specs.ReaderLaws.{given-end}
+use Rattle.state_readers.specs.Readers.{given}
+use Rattle.state_readers.proofs.ReaderLaws.{given-end}
 use Rattle.words.specs.Tables.{resultsIn}
 use Rattle.words.proofs.RowLaws.{length-results}
-use Rattle.state_readers.proofs.ReaderLaws.{found-here, looked-on}
+use Rattle.state_readers.proofs.LentLaws.{found-here, looked-on}
 use borrow.Author.Needs.{needs}
 use Rattle.state_readers.proofs.find.Statement.{statement}
 use Rattle.state_readers.proofs.find.Tie as tie
 use Rattle.state_readers.proofs.find.Reads as reads
 use Rattle.state_readers.proofs.find.Lts as lts
-use Rattle.places.proofs.result_at.Reads as result-at-reads
+use Rattle.state_places.proofs.result_at.Reads as result-at-reads
 use Rattle.state_readers.proofs.wide.Reads as wide-reads
 use Rattle.words_result.proofs.result_at.Reads as result-at-reads′
 

@@ -1,7 +1,7 @@
 use mathlib.Core.Path.{refl}
 use lib.ListN.{length}
 use Rattle.state_core.specs.Reading.{central}
-use Rattle.readers.specs.ReaderLaws.{result-refused, result-told, few-results}
+use Rattle.state_readers.proofs.ReaderLaws.{result-refused, result-told, few-results}
 use borrow.Author.Needs.{needs}
 use Rattle.state_readers.proofs.result.Statement.{statement}
 use Rattle.state_readers.proofs.result.Tie as tie

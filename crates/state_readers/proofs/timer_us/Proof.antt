@@ -1,7 +1,7 @@
 use mathlib.Core.Path.{refl}
 use lib.ListN.{length}
 use Rattle.state_core.specs.Reading.{central}
-use Rattle.readers.specs.ReaderLaws.{timer-refused, timer-told}
+use Rattle.state_readers.proofs.ReaderLaws.{timer-refused, timer-told}
 use borrow.Author.Needs.{needs}
 use Rattle.state_readers.proofs.timer_us.Statement.{statement}
 use Rattle.state_readers.proofs.timer_us.Tie as tie

@@ -2,7 +2,7 @@
 use native.Mathlib.Omega.{arith}
 use borrow.Author.Needs.{needs}
 use mathlib.Core.Path.{sym}
-use Rattle.time.specs.ClockLaws.{later-fits, later-beyond}
+use Rattle.time.proofs.ClockLaws.{later-fits, later-beyond}
 use Rattle.time.proofs.later.Statement.{statement}
 use Rattle.time.proofs.later.Tie as tie
 

@@ -6,8 +6,8 @@ use Rattle.tool_dumps.proofs.tell_characteristics.Statement.{statement}
 use Rattle.tool_dumps.proofs.tell_characteristics.Tie as tie
 use Rattle.tool_dumps.proofs.tell_characteristics.Reads as reads
 use Rattle.tool_dumps.proofs.tell_characteristics.Lts as lts
-use Rattle.lines.proofs.line.named.Reads as named-reads
-use Rattle.rows.proofs.characteristic.Reads as characteristic-reads
+use Rattle.tool_lines.proofs.line.named.Reads as named-reads
+use Rattle.tool_rows.proofs.characteristic.Reads as characteristic-reads
 
 abbrev Inv-loop : tie.InvT-loop
 Inv-loop count to₀ at kept n₀ i₀ to n i = (length kept ≡ 64) × (length to ≡ length to₀)

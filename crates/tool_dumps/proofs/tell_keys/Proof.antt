@@ -6,8 +6,8 @@ use Rattle.tool_dumps.proofs.tell_keys.Statement.{statement}
 use Rattle.tool_dumps.proofs.tell_keys.Tie as tie
 use Rattle.tool_dumps.proofs.tell_keys.Reads as reads
 use Rattle.tool_dumps.proofs.tell_keys.Lts as lts
-use Rattle.lines.proofs.line.key.Reads as key-reads
-use Rattle.lines.proofs.line.number.Reads as number-reads
+use Rattle.tool_lines.proofs.line.key.Reads as key-reads
+use Rattle.tool_lines.proofs.line.number.Reads as number-reads
 
 abbrev Inv-loop : tie.InvT-loop
 Inv-loop tables count to₀ at n₀ i₀ to n i = length to ≡ length to₀

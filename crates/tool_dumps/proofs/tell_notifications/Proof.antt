@@ -6,9 +6,9 @@ use Rattle.tool_dumps.proofs.tell_notifications.Statement.{statement}
 use Rattle.tool_dumps.proofs.tell_notifications.Tie as tie
 use Rattle.tool_dumps.proofs.tell_notifications.Reads as reads
 use Rattle.tool_dumps.proofs.tell_notifications.Lts as lts
-use Rattle.lines.proofs.line.named.Reads as named-reads
-use Rattle.places.proofs.notification_at.Reads as notification-at-reads
-use Rattle.rows.proofs.notification.Reads as notification-reads
+use Rattle.tool_lines.proofs.line.named.Reads as named-reads
+use Rattle.state_places.proofs.notification_at.Reads as notification-at-reads
+use Rattle.tool_rows.proofs.notification.Reads as notification-reads
 use Rattle.words_notification.proofs.notification_at.Reads as notification-at-reads′
 
 abbrev Inv-loop : tie.InvT-loop

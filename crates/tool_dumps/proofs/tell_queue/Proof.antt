@@ -6,9 +6,9 @@ use Rattle.tool_dumps.proofs.tell_queue.Statement.{statement}
 use Rattle.tool_dumps.proofs.tell_queue.Tie as tie
 use Rattle.tool_dumps.proofs.tell_queue.Reads as reads
 use Rattle.tool_dumps.proofs.tell_queue.Lts as lts
-use Rattle.lines.proofs.line.named.Reads as named-reads
-use Rattle.places.proofs.waiting_at.Reads as waiting-at-reads
-use Rattle.rows.proofs.queued.Reads as queued-reads
+use Rattle.tool_lines.proofs.line.named.Reads as named-reads
+use Rattle.state_places.proofs.waiting_at.Reads as waiting-at-reads
+use Rattle.tool_rows.proofs.queued.Reads as queued-reads
 use Rattle.words_step.proofs.queued_at.Reads as queued-at-reads
 
 abbrev Inv-loop : tie.InvT-loop

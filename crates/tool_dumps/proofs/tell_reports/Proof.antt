@@ -6,10 +6,10 @@ use Rattle.tool_dumps.proofs.tell_reports.Statement.{statement}
 use Rattle.tool_dumps.proofs.tell_reports.Tie as tie
 use Rattle.tool_dumps.proofs.tell_reports.Reads as reads
 use Rattle.tool_dumps.proofs.tell_reports.Lts as lts
-use Rattle.lines.proofs.line.named.Reads as named-reads
-use Rattle.places.proofs.report_at.Reads as report-at-reads
-use Rattle.places.proofs.response_at.Reads as response-at-reads
-use Rattle.rows.proofs.report.Reads as report-reads
+use Rattle.tool_lines.proofs.line.named.Reads as named-reads
+use Rattle.state_places.proofs.report_at.Reads as report-at-reads
+use Rattle.state_places.proofs.response_at.Reads as response-at-reads
+use Rattle.tool_rows.proofs.report.Reads as report-reads
 use Rattle.tool_dumps.proofs.advertiser.Reads as advertiser-reads
 use Rattle.words_report.proofs.report_at.Reads as report-at-reads′
 

@@ -6,9 +6,9 @@ use Rattle.tool_dumps.proofs.tell_results.Statement.{statement}
 use Rattle.tool_dumps.proofs.tell_results.Tie as tie
 use Rattle.tool_dumps.proofs.tell_results.Reads as reads
 use Rattle.tool_dumps.proofs.tell_results.Lts as lts
-use Rattle.lines.proofs.line.named.Reads as named-reads
-use Rattle.places.proofs.result_at.Reads as result-at-reads
-use Rattle.rows.proofs.kept.Reads as kept-reads
+use Rattle.tool_lines.proofs.line.named.Reads as named-reads
+use Rattle.state_places.proofs.result_at.Reads as result-at-reads
+use Rattle.tool_rows.proofs.kept.Reads as kept-reads
 use Rattle.words_result.proofs.result_at.Reads as result-at-reads′
 
 abbrev Inv-loop : tie.InvT-loop

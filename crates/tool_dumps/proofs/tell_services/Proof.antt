@@ -6,8 +6,8 @@ use Rattle.tool_dumps.proofs.tell_services.Statement.{statement}
 use Rattle.tool_dumps.proofs.tell_services.Tie as tie
 use Rattle.tool_dumps.proofs.tell_services.Reads as reads
 use Rattle.tool_dumps.proofs.tell_services.Lts as lts
-use Rattle.lines.proofs.line.named.Reads as named-reads
-use Rattle.rows.proofs.service.Reads as service-reads
+use Rattle.tool_lines.proofs.line.named.Reads as named-reads
+use Rattle.tool_rows.proofs.service.Reads as service-reads
 use Rattle.words_service.proofs.service_at.Reads as service-at-reads
 
 abbrev Inv-loop : tie.InvT-loop

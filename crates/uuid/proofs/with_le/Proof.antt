@@ -4,7 +4,7 @@ use native.Mathlib.Omega.{arith}
 use borrow.Author.Needs.{needs}
 use lib.ListN.{length, drop}
 use lib.Seq.{paste, paste-zero}
-use Rattle.base.specs.Bytes.{leBytes}
+use Rattle.bytes.specs.Bytes.{leBytes}
 use Rattle.uuid.proofs.Laws.{started, after, stored}
 use Rattle.uuid.proofs.with_le.Statement.{statement}
 use Rattle.uuid.proofs.with_le.Tie as tie

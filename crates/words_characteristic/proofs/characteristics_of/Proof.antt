@@ -2,7 +2,7 @@ use Prim.Native.Nat.{_≤_, _-_}
 use mathlib.Core.Path.{_≡_, refl, _∙_}
 use native.Mathlib.Omega.{arith}
 use lib.ListN.{length, take, length-replicate, length-set}
-use Rattle.characteristics.specs.Characteristic.{zero-characteristic}
+use Rattle.gatt_characteristics.specs.Characteristic.{zero-characteristic}
 use Rattle.words.specs.Tables.{characteristicsIn}
 use Rattle.words_characteristic.proofs.LoopLaws.{read-on}
 use Rattle.words_characteristic.proofs.characteristics_of.Statement.{statement}

@@ -3,7 +3,7 @@ use mathlib.Core.Path.{_≡_, refl}
 use native.Mathlib.Omega.{arith}
 use lib.ListN.{take, drop}
 use borrow.Author.Needs.{needs}
-use Rattle.characteristics.specs.Characteristic.{characteristicWith}
+use Rattle.gatt_characteristics.specs.Characteristic.{characteristicWith}
 use Rattle.words.specs.Tables.{characteristicsIn}
 use Rattle.words_characteristic.proofs.LoopLaws.{find-pass, find-hit, find-end}
 use Rattle.words_characteristic.proofs.find_characteristic.Statement.{statement}

@@ -4,7 +4,7 @@ use mathlib.Core.Bool.{_&&_}
 use native.Mathlib.Omega.{arith}
 use lib.ListN.{take, drop}
 use borrow.Author.Needs.{needs}
-use Rattle.characteristics.specs.Characteristic.{rises, upFrom}
+use Rattle.gatt_characteristics.specs.Characteristic.{rises, upFrom}
 use Rattle.words.specs.Tables.{characteristicsIn}
 use Rattle.words_characteristic.proofs.LoopLaws.{rise-on, rise-end}
 use Rattle.words_characteristic.proofs.is_rising.Statement.{statement}

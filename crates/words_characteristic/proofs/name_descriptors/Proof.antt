@@ -4,7 +4,7 @@ use Rattle.words_characteristic.proofs.name_descriptors.Statement.{stat
 use Rattle.words_characteristic.proofs.name_descriptors.Tie as tie
 use Rattle.words_characteristic.proofs.name_descriptors.Reads as reads
 use Rattle.words_characteristic.proofs.name_descriptors.Lts as lts
-use Rattle.descriptors.proofs.name_descriptors.Reads as name-descriptors-reads
+use Rattle.gatt_descriptors.proofs.name_descriptors.Reads as name-descriptors-reads
 use Rattle.words_characteristic.proofs.characteristics_of.Reads as characteristics-of-reads
 use Rattle.words_characteristic.proofs.put_characteristics.Reads as put-characteristics-reads
 

@@ -5,7 +5,7 @@ use Rattle.words_characteristic.proofs.take_characteristics.Statement.{
 use Rattle.words_characteristic.proofs.take_characteristics.Tie as tie
 use Rattle.words_characteristic.proofs.take_characteristics.Reads as reads
 use Rattle.words_characteristic.proofs.take_characteristics.Lts as lts
-use Rattle.characteristics.proofs.take_characteristics.Reads as take-characteristics-reads
+use Rattle.gatt_characteristics.proofs.take_characteristics.Reads as take-characteristics-reads
 use Rattle.words_characteristic.proofs.characteristics_of.Reads as characteristics-of-reads
 use Rattle.words_characteristic.proofs.put_characteristics.Reads as put-characteristics-reads
 

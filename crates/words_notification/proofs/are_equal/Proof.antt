@@ -2,9 +2,9 @@ use Prim.Native.Nat.{ℕ, _≤_, _+_, _-_}
 use mathlib.Core.Path.{_≡_, sym, ap, _∙_}
 use native.Mathlib.Omega.{arith}
 use lib.ListN.{take, drop}
-use Rattle.queues.specs.Blocks.{bytes}
-use Rattle.waits.specs.Wait.{starts}
-use Rattle.waits.proofs.WaitLaws.{equal-on, equal-off, equal-end}
+use Rattle.lists.specs.Blocks.{bytes}
+use Rattle.notifications.specs.Wait.{starts}
+use Rattle.notifications.proofs.WaitLaws.{equal-on, equal-off, equal-end}
 use Rattle.words_notification.proofs.SearchLaws.{slice-bytes}
 use Rattle.words_notification.proofs.are_equal.Statement.{statement}
 use Rattle.words_notification.proofs.are_equal.Tie as tie

@@ -9,7 +9,7 @@ use Rattle.words_notification.proofs.begins_in.Statement.{statement}
 use Rattle.words_notification.proofs.begins_in.Tie as tie
 use Rattle.words_notification.proofs.begins_in.Reads as reads
 use Rattle.words_notification.proofs.begins_in.Lts as lts
-use Rattle.places.proofs.notification_at.Reads as notification-at-reads
+use Rattle.state_places.proofs.notification_at.Reads as notification-at-reads
 use Rattle.words_notification.proofs.goes_on.Reads as goes-on-reads
 
 abbrev Inv-loop : tie.InvT-loop

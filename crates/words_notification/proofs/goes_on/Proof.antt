@@ -4,15 +4,15 @@ use native.Mathlib.Omega.{arith}
 use borrow.Author.Needs.{needs}
 use borrow.Author.Tests.{not-true, not-false}
 use lib.ListN.{length, drop}
-use Rattle.queues.specs.Blocks.{bytes}
-use Rattle.waits.specs.Wait.{starts}
+use Rattle.lists.specs.Blocks.{bytes}
+use Rattle.notifications.specs.Wait.{starts}
 use Rattle.words_notification.specs.Search.{own, joined}
 use Rattle.words_notification.proofs.SearchLaws.{still-on, size-small, value-differs, value-same, value-far, goes-end}
 use Rattle.words_notification.proofs.goes_on.Statement.{statement}
 use Rattle.words_notification.proofs.goes_on.Tie as tie
 use Rattle.words_notification.proofs.goes_on.Reads as reads
 use Rattle.words_notification.proofs.goes_on.Lts as lts
-use Rattle.places.proofs.notification_at.Reads as notification-at-reads
+use Rattle.state_places.proofs.notification_at.Reads as notification-at-reads
 use Rattle.words_notification.proofs.are_equal.Reads as are-equal-reads
 use Rattle.words_notification.proofs.least.Reads as least-reads
 use Rattle.words_notification.proofs.own_size.Reads as own-size-reads

@@ -3,8 +3,8 @@ use mathlib.Core.Path.{_≡_, refl, sym, _∙_}
 use mathlib.Core.List.{List}
 use native.Mathlib.Omega.{arith}
 use lib.ListN.{drop}
-use Rattle.waits.specs.Kept.{live, heard}
-use Rattle.waits.specs.Wait.{any}
+use Rattle.notifications.specs.Kept.{live, heard}
+use Rattle.notifications.specs.Wait.{any}
 use Rattle.words_notification.specs.Kept.{keptIn}
 use Rattle.words_notification.proofs.SearchLaws.{is-hit, is-pass, is-end}
 use Rattle.words_notification.proofs.is_any.Statement.{statement}

@@ -4,7 +4,7 @@ use mathlib.Core.List.{List, []}
 use native.Mathlib.Omega.{arith}
 use borrow.Author.Needs.{needs}
 use lib.ListN.{length}
-use Rattle.places.specs.Sizes.{valueSize, heldAt}
+use Rattle.state_places.specs.Sizes.{valueSize, heldAt}
 use Rattle.words_notification.specs.Search.{joined}
 use Rattle.words_notification.proofs.SearchLaws.{own-small, joined-length, joined-end}
 use Rattle.words_notification.proofs.joined_size.Statement.{statement}

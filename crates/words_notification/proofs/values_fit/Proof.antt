@@ -3,7 +3,7 @@ use mathlib.Core.Path.{_≡_, refl, sym, _∙_}
 use mathlib.Core.Bool.{_&&_}
 use native.Mathlib.Omega.{arith}
 use lib.ListN.{take, drop}
-use Rattle.waits.specs.Kept.{valuesFit}
+use Rattle.notifications.specs.Kept.{valuesFit}
 use Rattle.words.specs.Tables.{notificationsIn}
 use Rattle.words_notification.proofs.NotificationLaws.{fit-on, fit-end}
 use Rattle.words_notification.proofs.values_fit.Statement.{statement}

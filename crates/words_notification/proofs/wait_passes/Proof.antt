@@ -1,5 +1,5 @@
 use mathlib.Core.Path.{refl}
-use Rattle.waits.proofs.WaitLaws.{passes-empty, passes-some}
+use Rattle.notifications.proofs.WaitLaws.{passes-empty, passes-some}
 use Rattle.words_notification.specs.Search.{joined}
 use borrow.Author.Needs.{needs}
 use Rattle.words_notification.proofs.wait_passes.Statement.{statement}

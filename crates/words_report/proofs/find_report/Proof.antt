@@ -2,7 +2,7 @@ use Prim.Native.Nat.{_+_, _≤_, _-_}
 use mathlib.Core.Path.{_≡_, sym, _∙_}
 use native.Mathlib.Omega.{arith}
 use lib.ListN.{take, drop}
-use Rattle.reports.specs.Key.{seek}
+use Rattle.adv_reports.specs.Key.{seek}
 use Rattle.words.specs.Tables.{whoIn}
 use Rattle.words_report.proofs.ReportLaws.{find-here, find-on, find-end}
 use Rattle.words_report.proofs.find_report.Statement.{statement}

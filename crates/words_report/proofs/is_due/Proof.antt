@@ -3,7 +3,7 @@ use mathlib.Core.Path.{_≡_, refl, _∙_}
 use native.Mathlib.Omega.{arith}
 use lib.ListN.{take, drop}
 use borrow.Author.Tests.{not-true, not-false}
-use Rattle.reports.specs.Key.{among}
+use Rattle.adv_reports.specs.Key.{among}
 use Rattle.words.specs.Tables.{keysIn}
 use Rattle.words_report.proofs.ReportLaws.{due-here, due-on, due-end}
 use Rattle.words_report.proofs.is_due.Statement.{statement}

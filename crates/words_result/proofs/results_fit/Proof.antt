@@ -3,7 +3,7 @@ use mathlib.Core.Path.{_≡_, refl, sym, _∙_}
 use mathlib.Core.Bool.{_&&_}
 use native.Mathlib.Omega.{arith}
 use lib.ListN.{take, drop}
-use Rattle.fit.specs.Fit.{resultsFit}
+use Rattle.state_rules.specs.Fit.{resultsFit}
 use Rattle.words.specs.Tables.{resultsIn}
 use Rattle.words_result.proofs.ResultLaws.{fit-on, fit-end}
 use Rattle.words_result.proofs.results_fit.Statement.{statement}

@@ -3,7 +3,7 @@ use mathlib.Core.Path.{_≡_, refl}
 use native.Mathlib.Omega.{arith}
 use lib.ListN.{take, drop}
 use borrow.Author.Needs.{needs}
-use Rattle.services.specs.Service.{serviceWith}
+use Rattle.gatt_services.specs.Service.{serviceWith}
 use Rattle.words.specs.Tables.{servicesIn}
 use Rattle.words_service.proofs.ServiceLaws.{find-hit, find-pass, find-end}
 use Rattle.words_service.proofs.find_service.Statement.{statement}

@@ -3,7 +3,7 @@ use mathlib.Core.Path.{_≡_}
 use mathlib.Core.Bool.{true}
 use native.Mathlib.Omega.{arith}
 use lib.ListN.{take}
-use Rattle.fit.specs.Fit.{stepsFit}
+use Rattle.state_rules.specs.Fit.{stepsFit}
 use Rattle.words.specs.Tables.{stepsIn}
 use Rattle.words_step.proofs.FitLaws.{short-none, short-on}
 use Rattle.words_step.proofs.all_short.Statement.{statement}

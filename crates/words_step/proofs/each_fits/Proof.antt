@@ -4,8 +4,8 @@ use native.Mathlib.Omega.{arith}
 use lib.ListN.{take, drop, getD}
 use borrow.Author.Needs.{needs}
 use borrow.Author.Tests.{not-true, not-false}
-use Rattle.queues.specs.ScanLaws.{all-pass, all-fail, all-end}
-use Rattle.fit.specs.Fit.{stepsFit}
+use Rattle.lists.proofs.ScanLaws.{all-pass, all-fail, all-end}
+use Rattle.state_rules.specs.Fit.{stepsFit}
 use Rattle.state.specs.Fresh.{noQueued}
 use Rattle.words.specs.Tables.{stepsIn}
 use Rattle.words.proofs.RowLaws.{length-steps}

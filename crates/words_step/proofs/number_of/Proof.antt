@@ -1,11 +1,11 @@
 use native.Mathlib.Omega.{arith}
-use Rattle.reports.specs.KeyLaws.{address-key}
+use Rattle.adv_reports.proofs.KeyLaws.{address-key}
 use borrow.Author.Needs.{needs}
 use Rattle.words_step.proofs.number_of.Statement.{statement}
 use Rattle.words_step.proofs.number_of.Tie as tie
 use Rattle.words_step.proofs.number_of.Reads as reads
 use Rattle.words_step.proofs.number_of.Lts as lts
-use Rattle.reports.proofs.key_of.Reads as key-of-reads
+use Rattle.adv_reports.proofs.key_of.Reads as key-of-reads
 
 key-of-requires : tie.Need-key-of-requires
 key-of-requires c κs = search needs

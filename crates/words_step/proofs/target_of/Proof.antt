@@ -5,7 +5,7 @@ use Rattle.words_step.proofs.target_of.Statement.{statement}
 use Rattle.words_step.proofs.target_of.Tie as tie
 use Rattle.words_step.proofs.target_of.Reads as reads
 use Rattle.words_step.proofs.target_of.Lts as lts
-use Rattle.reports.proofs.address_of.Reads as address-of-reads
+use Rattle.adv_reports.proofs.address_of.Reads as address-of-reads
 
 address-of-requires : tie.Need-address-of-requires
 address-of-requires c κs = search needs

@@ -1,11 +1,11 @@
-use Rattle.starts.proofs.LinkedLaws.{configure-law}
+use Rattle.script_rules.proofs.LinkedLaws.{configure-law}
 use borrow.Author.Needs.{needs}
 use Rattle.script_starts.proofs.access.configure.Statement.{statement}
 use Rattle.script_starts.proofs.access.configure.Tie as tie
 use Rattle.script_starts.proofs.access.configure.Reads as reads
 use Rattle.script_starts.proofs.access.configure.Lts as lts
-use Rattle.halves.proofs.hi.Reads as hi-reads
-use Rattle.halves.proofs.lo.Reads as lo-reads
+use Rattle.bytes_halves.proofs.hi.Reads as hi-reads
+use Rattle.bytes_halves.proofs.lo.Reads as lo-reads
 
 lo-requires : tie.Need-lo-requires
 lo-requires c κs = search needs

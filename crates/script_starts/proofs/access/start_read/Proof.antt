@@ -1,6 +1,6 @@
 use mathlib.Core.Path.{sym, ap, _∙_}
-use Rattle.starts.specs.Start.{read}
-use Rattle.starts.proofs.LinkedLaws.{read-none, read-one}
+use Rattle.script_rules.specs.Start.{read}
+use Rattle.script_rules.proofs.LinkedLaws.{read-none, read-one}
 use borrow.Author.Needs.{needs}
 use Rattle.script_starts.proofs.access.start_read.Statement.{statement}
 use Rattle.script_starts.proofs.access.start_read.Tie as tie

@@ -1,6 +1,6 @@
 use mathlib.Core.Path.{sym, ap, _∙_}
-use Rattle.starts.specs.Start.{subscribe}
-use Rattle.starts.proofs.LinkedLaws.{subscribe-none, subscribe-one}
+use Rattle.script_rules.specs.Start.{subscribe}
+use Rattle.script_rules.proofs.LinkedLaws.{subscribe-none, subscribe-one}
 use borrow.Author.Needs.{needs}
 use Rattle.script_starts.proofs.access.start_subscribe.Statement.{statement}
 use Rattle.script_starts.proofs.access.start_subscribe.Tie as tie

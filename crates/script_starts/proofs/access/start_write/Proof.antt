@@ -1,6 +1,6 @@
 use mathlib.Core.Path.{sym, ap, _∙_}
-use Rattle.starts.specs.Start.{write}
-use Rattle.starts.proofs.LinkedLaws.{write-none}
+use Rattle.script_rules.specs.Start.{write}
+use Rattle.script_rules.proofs.LinkedLaws.{write-none}
 use borrow.Author.Needs.{needs}
 use Rattle.script_starts.proofs.access.start_write.Statement.{statement}
 use Rattle.script_starts.proofs.access.start_write.Tie as tie

@@ -1,5 +1,5 @@
 use mathlib.Core.Path.{_∙_}
-use Rattle.starts.proofs.LinkedLaws.{cccd-unknown, cccd-known}
+use Rattle.script_rules.proofs.LinkedLaws.{cccd-unknown, cccd-known}
 use borrow.Author.Needs.{needs}
 use Rattle.script_starts.proofs.access.subscribe_at.Statement.{statement}
 use Rattle.script_starts.proofs.access.subscribe_at.Tie as tie

@@ -1,6 +1,6 @@
 use native.Mathlib.Omega.{arith}
 use Rattle.uuid.specs.Value.{short}
-use Rattle.uuid.specs.Laws.{halves}
+use Rattle.uuid.specs.ValueLaws.{halves}
 use borrow.Author.Needs.{needs}
 use Rattle.uuid.proofs.Uuid.from_u32.Statement.{statement}
 use Rattle.uuid.proofs.Uuid.from_u32.Tie as tie

@@ -1,0 +1,21 @@
+-- What the returns of given_words and report_words ask.
+use Prim.Native.Nat.{ℕ}
+use mathlib.Core.Path.{_≡_}
+use Rattle.time.specs.declared.Micros.{Micros}
+use Rattle.state.specs.declared.StepStatus.{StepStatus}
+use Rattle.adv_reports.specs.Key.{key}
+use Rattle.radio_sights.specs.declared.Span.{Span}
+use Rattle.radio_sights.specs.declared.AdvReport.{AdvReport}
+use Rattle.radio_sights.specs.declared.Seen.the-variants as seen
+use Rattle.radio_sights.specs.View.{spanOf}
+use Rattle.state_readers.specs.declared.Given.{Given}
+use Rattle.state_readers.specs.declared.Given.the-variants as given
+use Rattle.c_told.specs.Read.{eight, twelve, statusNumber, statusCode, responseThere, givenWords, seenWords}
+
+pub given-law : (at : Micros) (s : StepStatus) (place len n k : ℕ) (x : Given) → n ≡ statusNumber s → k ≡ statusCode s → x ≡ given.Is at s place len
+    → eight 0 1 (at .0) n k place len 0 ≡ givenWords x
+given-law at s place len n k x e f g = rw (e, f, g)
+
+pub report-law : (r : AdvReport) (k there : ℕ) (s : Span) → k ≡ key (r .address) → there ≡ responseThere (r .response) → s ≡ spanOf (r .response)
+    → twelve 0 1 (r .at .0) (r .channel) (r .pdu) k (r .«data» .at) (r .«data» .len) there (s .at) (s .len) 0 ≡ seenWords (seen.Is r)
+report-law r k there s e f g = rw (e, f, g)

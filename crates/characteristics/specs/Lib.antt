@@ -1,4 +1,0 @@
-pub mod Characteristic
-pub mod Parts
-pub mod Rust
-pub mod Sample

@@ -1,4 +1,0 @@
-pub mod RangeLaws
-pub mod GiveLaws
-pub mod NamedLaws
-pub mod Keeps

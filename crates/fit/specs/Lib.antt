@@ -1,8 +1,0 @@
-pub mod Steps
-pub mod Fit
-pub mod Parts
-pub mod Facts
-pub mod FitLaws
-pub mod Refusals
-pub mod Gate
-pub mod GateLaws

@@ -1,0 +1,3 @@
+pub mod Characteristic
+pub mod Rust
+pub mod Sample

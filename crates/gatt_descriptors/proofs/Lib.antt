@@ -1,0 +1,3 @@
+pub mod GiveLaws
+pub mod NamedLaws
+pub mod Keeps

@@ -1,3 +1,0 @@
-pub mod Hearing
-pub mod HearingLaws
-pub mod Keeps

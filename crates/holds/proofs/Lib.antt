@@ -1,6 +1,0 @@
-pub mod Work
-pub mod Replies
-pub mod Tables
-pub mod Responses
-pub mod Att
-pub mod Channel

@@ -1,3 +1,0 @@
-pub mod Nearly
-pub mod Timed
-pub mod Sound

@@ -1,1 +1,0 @@
-// Fit goes to fit: theorems over the calls' definitions.

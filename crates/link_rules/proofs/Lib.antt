@@ -1,0 +1,15 @@
+pub mod FragmentLaws
+pub mod PayloadLaws
+pub mod AnswerLaws
+pub mod AbleLaws
+pub mod ServiceLaws
+pub mod CharacteristicLaws
+pub mod KeepFrames
+pub mod AttLaws
+pub mod KeepWork
+pub mod KeepReplies
+pub mod KeepTables
+pub mod KeepResponses
+pub mod KeepAtt
+pub mod KeepChannel
+pub mod ReplyLaws

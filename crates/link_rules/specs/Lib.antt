@@ -1,0 +1,14 @@
+pub mod Fragment
+pub mod Payload
+pub mod Notices
+pub mod Replies
+pub mod Answers
+pub mod Able
+pub mod Moves
+pub mod Services
+pub mod Characteristics
+pub mod Errors
+pub mod Responses
+pub mod Att
+pub mod Channel
+pub mod Link

@@ -1,0 +1,5 @@
+pub mod Cut
+pub mod First
+pub mod Taken
+pub mod Queue
+pub mod Blocks

@@ -1,0 +1,1 @@
+// Lists, queues and blocks of bytes: definitions and their laws.

@@ -1,2 +1,0 @@
-pub mod AbleLaws
-pub mod MoveLaws

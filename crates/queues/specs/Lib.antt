@@ -1,5 +1,0 @@
-pub mod Queue
-pub mod Blocks
-pub mod ScanLaws
-pub mod QueueLaws
-pub mod BlockLaws

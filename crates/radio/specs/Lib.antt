@@ -1,2 +1,0 @@
-pub mod Radio
-pub mod RadioLaws

@@ -1,4 +1,0 @@
-pub mod Key
-pub mod Reports
-pub mod KeyLaws
-pub mod Whole

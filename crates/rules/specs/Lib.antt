@@ -1,5 +1,0 @@
-pub mod Errors
-pub mod Responses
-pub mod Att
-pub mod Channel
-pub mod Link

@@ -1,3 +1,0 @@
-pub mod LoopLaws
-pub mod AdvanceLaws
-pub mod StepLaws

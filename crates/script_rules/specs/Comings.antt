@@ -1,0 +1,49 @@
+-- What a timer, a link that comes and a link that goes do (01, 'Rules of the link': what each ends, what each keeps).
+use Prim.Native.Nat.{ℕ}
+use mathlib.Core.Bool.{Bool, _||_}
+use Rattle.bytes.specs.Choice.{pick}
+use Rattle.time.specs.declared.Micros.{Micros}
+use Rattle.state.specs.Central.{withBearer}
+use Rattle.state.specs.declared.Step.{Step}
+use Rattle.state.specs.declared.StepStatus.{StepStatus}
+use Rattle.state.specs.declared.StepStatus.the-variants.{Ok, Disconnected}
+use Rattle.script_rules.specs.World.{Held, World, onHeld, onState}
+use Rattle.script_rules.specs.Start.{ends}
+use Rattle.state_kinds.specs.Kinds.{isScan, isWait, isDisconnect}
+pub use Rattle.state_kinds.specs.Kinds.{isConnect}
+pub use Rattle.script_rules.specs.Bearers.{linked, unlinked}
+pub use Rattle.script_rules.specs.Timeouts.{timedOut, due}
+use Rattle.script_rules.specs.Script.{advance, advanceUnlinked}
+
+-- ---- the timer
+
+unfoldable pub expire : World → Micros → World
+expire w at =
+    let r = w .held .state .running in
+    pick (due r at) (advance (onHeld w (ends (w .held) at (timedOut (r .step)))) at) w
+
+-- ---- a link comes
+
+-- a running Connect is done (a step that does not run is not ended)
+abbrev pub greeted : Held → Micros → Held
+greeted h at = pick (isConnect (h .state .running .step)) (ends h at Ok) h
+
+unfoldable pub connect : World → ℕ → Micros → World
+connect w handle at = advance (onHeld w (greeted (onState (w .held) (withBearer (w .held .state) (linked handle))) at)) at
+
+-- ---- a link goes
+
+-- what becomes of a running step: a scan, a wait and a connect go on; a Disconnect is done; every other step is cut off
+abbrev pub goesOn : Step → Bool
+goesOn s = isScan s || (isConnect s || isWait s)
+
+abbrev pub cutStatus : Step → StepStatus
+cutStatus s = pick (isDisconnect s) Ok Disconnected
+
+unfoldable pub cutOff : Held → Micros → Step → Held
+cutOff h at step = pick (goesOn step) h (ends h at (cutStatus step))
+
+unfoldable pub lose : Held → Micros → Held
+lose h at =
+    let g = onState h (withBearer (h .state) (unlinked (h .state .bearer))) in
+    advanceUnlinked (cutOff g at (g .state .running .step)) at

@@ -1,0 +1,28 @@
+-- on_timer, on_connected and on_disconnected: each is refused, or does its work.
+use Prim.Native.Nat.{ℕ}
+use mathlib.Core.List.{List}
+use lib.ListN.{length}
+use lib.Dec.{eqb}
+use Rattle.bytes.specs.Choice.{pick}
+use Rattle.time.specs.declared.Micros.{Micros}
+use Rattle.state.specs.Central.{Central}
+use Rattle.state_rules.specs.Gate.{gate, gateQuiet}
+use Rattle.state_rules.specs.Refusals.{accepted}
+use Rattle.script_rules.specs.Outcome.{Outcome, Quiet, begins, done, refused, quietly, quietlyRefused}
+pub use Rattle.script_rules.specs.Comings.{linked, unlinked, timedOut, due, isConnect, greeted, goesOn, cutStatus}
+unfoldable pub use Rattle.script_rules.specs.Comings.{expire, connect, cutOff, lose}
+
+unfoldable pub onTimer : Central → List ℕ → List ℕ → Micros → Outcome
+onTimer c store out at =
+    let g = gate c (length store) (length out) at in
+    pick (eqb g accepted) (done (expire (begins c store out) at)) (refused c g store out)
+
+unfoldable pub onConnected : Central → List ℕ → List ℕ → ℕ → Micros → Outcome
+onConnected c store out handle at =
+    let g = gate c (length store) (length out) at in
+    pick (eqb g accepted) (done (connect (begins c store out) handle at)) (refused c g store out)
+
+unfoldable pub onDisconnected : Central → List ℕ → Micros → Quiet
+onDisconnected c store at =
+    let g = gateQuiet c (length store) at in
+    pick (eqb g accepted) (quietly (lose (record { state = c; store = store }) at)) (quietlyRefused c g store)

@@ -1,0 +1,38 @@
+-- The script goes on: while no step runs and some wait, the first of them begins.
+use Prim.Native.Nat.{ℕ, zero, suc}
+use mathlib.Core.Bool.{Bool, not, _&&_}
+use lib.Dec.{ltb}
+use Rattle.bytes.specs.Choice.{pick}
+use Rattle.time.specs.declared.Micros.{Micros}
+use Rattle.state.specs.Central.{Central}
+use Rattle.script_rules.specs.World.{Held, World, onHeld}
+use Rattle.script_rules.specs.Waiting.{takeStep}
+use Rattle.script_rules.specs.Start.{startUnlinked, start}
+
+abbrev pub canGo : Central → Bool
+canGo c = not (c .running .active) && ltb 0 (c .queue .count)
+
+-- the first waiting step begins
+abbrev pub stepOnce : World → Micros → World
+stepOnce w at = start (onHeld w (takeStep (w .held))) at
+
+-- at most n of them
+unfoldable pub advances : ℕ → World → Micros → World
+advances zero w at = w
+advances (suc n) w at = pick (canGo (w .held .state)) (advances n (stepOnce w at) at) w
+
+-- as many as wait
+unfoldable pub advance : World → Micros → World
+advance w at = advances (w .held .state .queue .count) w at
+
+-- ---- the same with no link, where nothing can go out
+
+abbrev pub stepUnlinked : Held → Micros → Held
+stepUnlinked h at = let g = takeStep h in startUnlinked g at (g .state .running .step)
+
+unfoldable pub advancesUnlinked : ℕ → Held → Micros → Held
+advancesUnlinked zero h at = h
+advancesUnlinked (suc n) h at = pick (canGo (h .state)) (advancesUnlinked n (stepUnlinked h at) at) h
+
+unfoldable pub advanceUnlinked : Held → Micros → Held
+advanceUnlinked h at = advancesUnlinked (h .state .queue .count) h at

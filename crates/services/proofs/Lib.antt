@@ -1,2 +1,0 @@
-pub mod ServiceLaws
-pub mod Keeps

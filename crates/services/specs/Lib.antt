@@ -1,3 +1,0 @@
-pub mod Service
-pub mod Parts
-pub mod Sample

@@ -1,3 +1,0 @@
-pub mod Numbers
-pub mod Answer
-pub mod AnswerLaws

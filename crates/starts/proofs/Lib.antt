@@ -1,4 +1,0 @@
-pub mod CheckLaws
-pub mod StartLaws
-pub mod LinkedLaws
-pub mod BeginLaws

@@ -1,0 +1,60 @@
+-- What `refused_steps` and `notified` count, read off the calls and what came in with them: steps handed in, notifications heard.
+use Prim.Native.Nat.{ℕ, _+_}
+use mathlib.Core.Bool.{Bool, _&&_}
+use mathlib.Core.List.{List, [], _∷_}
+use lib.ListN.{length, getD}
+use lib.Dec.{leb}
+use Rattle.bytes.specs.Choice.{pick, among}
+use Rattle.att_pdu.specs.Numbers.{opHandleValueNtf, opHandleValueInd}
+use Rattle.script_rules.specs.World.{Held}
+use Rattle.script_rules.specs.BatchSteps.{steps}
+use Rattle.thm_trail.specs.Calls.{Call, batch, timer, connected, disconnected, advertising, scanResponse, fragment, reads, does, left, done?}
+use Rattle.thm_trail.specs.Trail.{News, link-came, link-went, att-heard, Pass, goes}
+
+-- ---- steps handed in
+
+-- the steps of a call's batch
+abbrev pub handed : Call → ℕ
+handed (batch out at b values) = length (steps b)
+handed (timer out at) = 0
+handed (connected out handle at) = 0
+handed (disconnected at) = 0
+handed (advertising v) = 0
+handed (scanResponse at a d) = 0
+handed (fragment out at start piece) = 0
+handed reads = 0
+
+-- by a call: none where it is refused
+abbrev pub handsIn : Held → Call → ℕ
+handsIn h c = pick (done? h c) (handed c) 0
+
+-- by a sequence of calls
+abbrev pub handedIn : Held → List Call → ℕ
+handedIn h [] = 0
+handedIn h (c ∷ cs) = handsIn h c + handedIn (left (does h c)) cs
+
+-- ---- notifications and indications heard
+
+-- an opcode of theirs and a handle at least (Core Vol 3 Part F 3.4.7)
+abbrev pub isNotice : List ℕ → Bool
+isNotice p = among (getD p 0 0) (opHandleValueNtf ∷ opHandleValueInd ∷ []) && leb 3 (length p)
+
+abbrev pub noticed : List News → ℕ
+noticed [] = 0
+noticed (link-came handle ∷ l) = noticed l
+noticed (link-went ∷ l) = noticed l
+noticed (att-heard p ∷ l) = pick (isNotice p) 1 0 + noticed l
+
+-- along a trail
+abbrev pub noticedAlong : List Pass → ℕ
+noticedAlong [] = 0
+noticedAlong (p ∷ ps) = noticed (p .came) + noticedAlong ps
+
+-- by a call: none where it is refused
+abbrev pub noticedBy : Held → Call → ℕ
+noticedBy h c = pick (done? h c) (noticedAlong (goes h c)) 0
+
+-- by a sequence of calls
+abbrev pub notices : Held → List Call → ℕ
+notices h [] = 0
+notices h (c ∷ cs) = noticedBy h c + notices (left (does h c)) cs

@@ -1,0 +1,2 @@
+pub mod FitGoesToFit
+pub mod FragmentLasts

@@ -1,0 +1,1 @@
+// Every call leaves a fit state.

@@ -1,0 +1,84 @@
+-- The hops of which every trail is made.
+use Prim.Native.Nat.{ℕ, zero, suc, _+_, _≤_, _<_}
+use mathlib.Core.Path.{_≡_, refl}
+use mathlib.Core.Bool.{Bool, true, false}
+use mathlib.Core.List.{List, [], _∷_}
+use lib.ListN.{length}
+use Rattle.bytes.specs.Choice.{pick}
+use Rattle.lists.specs.Blocks.{bytes}
+use Rattle.state_places.specs.Sizes.{mostSteps, mostResults, mostKeys, resultSize, resultAt}
+use Rattle.time.specs.declared.Micros.{Micros}
+use Rattle.time.specs.Clock.{latest}
+use Rattle.uuid.specs.declared.Uuid.{Uuid}
+use Rattle.state.specs.Central.{Central}
+use Rattle.state.specs.declared.Step.the-variants.{Read}
+use Rattle.state.specs.declared.StepStatus.{StepStatus}
+use Rattle.state.specs.declared.StepStatus.the-variants.{Ok}
+use Rattle.state_rules.specs.Fit.{mostNotified}
+use Rattle.script_rules.specs.World.{Held, World, onHeld}
+use Rattle.adv_reports.specs.Whole.{Whole}
+use Rattle.script_rules.specs.Start.{ends}
+use Rattle.script_rules.specs.Nearly.{Nearly}
+use Rattle.script_rules.specs.Sound.{Sound}
+use Rattle.script_rules.specs.Script.{canGo, stepOnce}
+use Rattle.link_rules.specs.Payload.{payload, payloadSize}
+use Rattle.link_rules.specs.Channel.{onChannel}
+use Rattle.thm_trail.specs.Trail.{link-came, link-went, Pass, pass, met, parted, cameOn, onwards, onward}
+
+-- the arrays have the sizes that their types give them (definitions speak of lists of any length)
+pub record Sizes (c : Central) : Type 0 where
+  pub queue : length (c .queue .kept) ≡ mostSteps
+  pub results : length (c .results .kept) ≡ mostResults
+  pub reports : Whole (c .reports)
+  pub keys : length (c .keys .kept) ≡ mostKeys
+
+-- no Read ends well so
+abbrev pub NoRead : World → StepStatus → Type 0
+NoRead w st = (u : Uuid) → w .held .state .running .step ≡ Read u → st ≡ Ok → ⊥
+
+-- nothing of the script, its results, the link and the counters changes, nor any byte of a result's value
+pub record Still (h g : Held) : Type 0 where
+  pub counters : g .state .counters ≡ h .state .counters
+  pub queue : g .state .queue ≡ h .state .queue
+  pub running : g .state .running ≡ h .state .running
+  pub results : g .state .results ≡ h .state .results
+  pub link : g .state .bearer .link ≡ h .state .bearer .link
+  pub present : g .state .bearer .present ≡ h .state .bearer .present
+  pub values : (k : ℕ) → k < mostResults → (n : ℕ) → n ≤ resultSize → bytes (g .store) (resultAt k) n ≡ bytes (h .store) (resultAt k) n
+  pub store : length (g .store) ≡ length (h .store)
+  pub nearly : Nearly (g .state)
+  pub sizes : Sizes (h .state) → Sizes (g .state)
+
+-- a frame's payload of n bytes is there to be read, and nothing has gone out yet
+pub record Open (at : Micros) (n : ℕ) (w : World) : Type 0 where
+  pub sound : Sound 65 w
+  pub unsent : w .told .sent .frames ≡ 0
+  pub present : w .held .state .bearer .present ≡ true
+  pub short : n ≤ payloadSize
+  pub notified : w .held .state .counters .notified + 1 ≤ mostNotified
+  pub time : at .0 ≤ latest
+
+pub data Hop : World → Pass → Type 0 where
+  ended : (w : World) (at : Micros) (st : StepStatus) → NoRead w st → Hop w (pass (onHeld w (ends (w .held) at st)))
+  began : (w : World) (at : Micros) → at .0 ≤ latest → canGo (w .held .state) ≡ true → Hop w (pass (stepOnce w at))
+  meets : (w : World) (handle : ℕ) → Hop w (record { came = link-came handle ∷ []; to = met w handle })
+  parts : (w : World) → Hop w (record { came = link-went ∷ []; to = parted w })
+  still : (w : World) (g : Held) → Still (w .held) g → Hop w (pass (onHeld w g))
+  acted : (w : World) (at : Micros) (channel n : ℕ) → Open at n w → Sound 65 (onChannel w at channel n)
+      → Hop w (record { came = cameOn channel (payload (w .held) n); to = onChannel w at channel n })
+
+pub data Hops : World → List Pass → Type 0 where
+  none : {w : World} → Hops w []
+  more : {w : World} {p : Pass} {ps : List Pass} → Hop w p → Hops (p .to) ps → Hops w (p ∷ ps)
+
+onwards-hops : (n : ℕ) (w : World) (at : Micros) → at .0 ≤ latest → Hops w (onwards n w at)
+unfolding onwards
+onwards-hops zero w at t = none
+onwards-hops (suc n) w at t = go (canGo (w .held .state)) refl (onwards-hops n (stepOnce w at) at t)
+  where
+    go : (b : Bool) → canGo (w .held .state) ≡ b → Hops (stepOnce w at) (onwards n (stepOnce w at) at) → Hops w (pick b (pass (stepOnce w at) ∷ onwards n (stepOnce w at) at) [])
+    go true e ih = more (began w at t e) ih
+    go false e ih = none
+
+pub onward-hops : (w : World) (at : Micros) → at .0 ≤ latest → Hops w (onward w at)
+onward-hops w at t = onwards-hops (w .held .state .queue .count) w at t

@@ -1,3 +1,0 @@
-pub mod FinishLaws
-pub mod SendLaws
-pub mod ReadyLaws

@@ -1,4 +1,0 @@
-pub mod World
-pub mod Finish
-pub mod Send
-pub mod Ready

@@ -1,2 +1,0 @@
-pub mod WaitLaws
-pub mod KeepLaws

@@ -1,7 +1,0 @@
-pub mod Data
-pub mod Lit
-pub mod Sets
-pub mod SetsTo
-pub mod Renews
-pub mod Lends
-pub mod LendsAlone

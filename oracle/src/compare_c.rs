@@ -1,0 +1,134 @@
+//! Runs sequences of calls on the oracle and on the port through its C interface, in one process, and compares their answers.
+//!
+//!   compare_c [seed N] [count N] [total N] [calls N] [dumps N] [groups script,radio,link] [save FOLDER] [refusals] [few] [first]
+//!
+//! The words are those of `compare`, whose generator, gate and answers it shares. Every answer is compared, with the bytes sent;
+//! at a dump the state that the words say, with the Rust's own, and the views of one report; at a refusal, that nothing lent has
+//! changed.
+
+#[path = "compare/asked.rs"]
+mod asked;
+#[path = "compare/c_port.rs"]
+mod c_port;
+#[path = "compare/exports.rs"]
+mod exports;
+#[path = "compare/options.rs"]
+mod options;
+#[path = "compare/report.rs"]
+mod report;
+#[allow(dead_code)]
+mod sequence;
+#[path = "compare/shrink.rs"]
+mod shrink;
+#[path = "compare/state.rs"]
+mod state;
+#[allow(dead_code)]
+mod trace;
+#[path = "compare/verdict.rs"]
+mod verdict;
+#[path = "compare/views.rs"]
+mod views;
+#[path = "compare/words.rs"]
+mod words;
+
+use c_port::Port;
+use options::Options;
+use oracle::ble::central::{Central, Uuid};
+use sequence::counts::Counts;
+use sequence::{Witness, make};
+use std::process::ExitCode;
+use std::time::{Duration, Instant};
+use trace::Call;
+use trace::answer::{self, Answer};
+use verdict::{Difference, Shown};
+
+/// A service that some advertisers of a sequence list.
+const LISTED: u16 = 0x180F;
+/// How often a long run says how far it is.
+const PROGRESS: Duration = Duration::from_secs(20);
+
+/// The port beside the oracle, for one sequence after another.
+struct Beside {
+    port: Port,
+    /// The number of the call in its sequence.
+    at: usize,
+    /// Answers that were equal, in all sequences, before the first that differs.
+    equal: u64,
+    /// In this sequence: where it differs, and both lines.
+    differs: Option<(usize, Vec<u8>, Vec<u8>)>,
+}
+
+impl Beside {
+    /// The port's answer to a call that the oracle has made.
+    fn got(&mut self, call: &Call, answer: &Answer, left: &Central) -> Answer {
+        match answer {
+            Answer::Refused(_) => self.port.refusal(call),
+            Answer::State => {
+                // One report, the place behind the last too: each has its turn.
+                let i = self.equal as usize % (left.reports.len() + 1);
+                let wrong = views::fault(&self.port.memory, i, Uuid::from_u16(LISTED), left.reports.get(i));
+                wrong.map_or(Answer::State, Answer::Other)
+            }
+            _ => self.port.answer(call),
+        }
+    }
+
+    fn is_equal(&self, answer: &Answer, got: &Answer, left: &Central) -> bool {
+        got == answer && (*answer != Answer::State || state::central(&self.port.memory).as_ref() == Ok(left))
+    }
+}
+
+impl Witness for Beside {
+    fn saw(&mut self, call: &Call, answer: &Answer, left: &Central) {
+        // Behind a difference the two have different states.
+        if self.differs.is_some() {
+            return;
+        }
+        let got = self.got(call, answer, left);
+        if self.is_equal(answer, &got, left) {
+            self.equal += 1;
+        } else {
+            self.differs = Some((self.at, answer::line(call, answer, left), self.port.line(call, &got)));
+        }
+        self.at += 1;
+    }
+}
+
+fn run(o: &Options) -> (Shown, Port) {
+    let (start, mut told) = (Instant::now(), Duration::ZERO);
+    let mut counts = Counts::default();
+    let mut beside = Beside { port: Port::new(), at: 0, equal: 0, differs: None };
+    let (mut number, mut differing, mut found) = (0, 0, None);
+    while number < o.count && (o.total == 0 || counts.made() < o.total) {
+        (beside.at, beside.differs) = (0, None);
+        let made = make(o.plan, number, &mut counts, &mut beside);
+        if let Some((at, wanted, got)) = beside.differs.take() {
+            differing += 1;
+            let calls = beside.equal;
+            found = found.or(Some(Difference { number, at, calls, made, wanted, got: Some(got) }));
+            if o.first {
+                break;
+            }
+        }
+        number += 1;
+        let took = start.elapsed();
+        if took >= told + PROGRESS {
+            told = took;
+            eprintln!("{} calls, {:.0} s, differences {differing}", counts.made(), took.as_secs_f64());
+        }
+    }
+    (Shown { counts, took: start.elapsed(), differing, found }, beside.port)
+}
+
+fn main() -> ExitCode {
+    match Options::read(std::env::args().skip(1)) {
+        Ok(o) => {
+            let (shown, port) = run(&o);
+            verdict::give(&o, shown, port)
+        }
+        Err(e) => {
+            eprintln!("{e}");
+            ExitCode::FAILURE
+        }
+    }
+}

@@ -1,0 +1,251 @@
+/* The plain C of include/barleyrope.h: texts of UUIDs and addresses both ways, steps, and structs that say what the words say.
+ * Compiled as C99 and as C++11. Prints the number of checks and ends with 0, or prints the failed checks and ends with 1. */
+#include "barleyrope.h"
+
+#include <stdio.h>
+#include <string.h>
+
+static unsigned long checks, failures;
+
+static void expect(bool ok, const char *what, int line)
+{
+    checks++;
+    if (ok)
+        return;
+    failures++;
+    fprintf(stderr, "tests/c/header.c:%d: %s\n", line, what);
+}
+
+#define EXPECT(ok) expect((ok), #ok, __LINE__)
+
+/* ---- texts ----------------------------------------------------------------------------------- */
+
+static bool is_uuid(const char *text, uint64_t high, uint64_t low, const char *again)
+{
+    barleyrope_uuid uuid = barleyrope_uuid_of(1, 2);
+    char back[BARLEYROPE_UUID_TEXT];
+    return barleyrope_uuid_from_text(text, &uuid) && uuid.high == high && uuid.low == low &&
+           strcmp(barleyrope_uuid_to_text(uuid, back), again) == 0;
+}
+
+static bool is_no_uuid(const char *text)
+{
+    barleyrope_uuid uuid = barleyrope_uuid_of(1, 2);
+    return !barleyrope_uuid_from_text(text, &uuid) && uuid.high == 1 && uuid.low == 2;
+}
+
+static void uuids(void)
+{
+    static const char whole[] = "6E400001-B5A3-F393-E0A9-E50E24DCCA9E";
+    char text[64];
+    size_t i;
+    EXPECT(is_uuid(whole, UINT64_C(0x6E400001B5A3F393), UINT64_C(0xE0A9E50E24DCCA9E), whole));
+    EXPECT(is_uuid("6e400001-b5a3-f393-e0a9-e50e24dcca9e", UINT64_C(0x6E400001B5A3F393), UINT64_C(0xE0A9E50E24DCCA9E), whole));
+    EXPECT(is_uuid("180f", BARLEYROPE_SHORT_HIGH(0x180F), BARLEYROPE_SHORT_LOW, "180F"));
+    EXPECT(is_uuid("0000180F-0000-1000-8000-00805F9B34FB", BARLEYROPE_SHORT_HIGH(0x180F), BARLEYROPE_SHORT_LOW, "180F"));
+    EXPECT(is_uuid("0001180F-0000-1000-8000-00805F9B34FB", BARLEYROPE_SHORT_HIGH(0x1180F), BARLEYROPE_SHORT_LOW,
+                   "0001180F-0000-1000-8000-00805F9B34FB"));
+    EXPECT(is_uuid("00000000-0000-0000-0000-000000000000", 0, 0, "00000000-0000-0000-0000-000000000000"));
+    EXPECT(is_uuid("FFFFFFFF-FFFF-FFFF-FFFF-FFFFFFFFFFFF", UINT64_MAX, UINT64_MAX, "FFFFFFFF-FFFF-FFFF-FFFF-FFFFFFFFFFFF"));
+    EXPECT(is_no_uuid(NULL) && is_no_uuid("") && is_no_uuid("180") && is_no_uuid("180F0") && is_no_uuid("+80F"));
+    EXPECT(is_no_uuid("180G") && is_no_uuid(" 180F") && is_no_uuid("180F ") && is_no_uuid("0x180F"));
+    EXPECT(is_no_uuid("6E400001B5A3F393E0A9E50E24DCCA9E"));
+    EXPECT(is_no_uuid("6E400001-B5A3-F393-E0A9-E50E24DCCA9E0"));
+    /* cut anywhere but at 4, or with one character spoilt, it is none */
+    for (i = 0; i < 36; i++) {
+        memcpy(text, whole, sizeof whole);
+        text[i] = '\0';
+        EXPECT(i == 4 ? !is_no_uuid(text) : is_no_uuid(text));
+        text[i] = whole[i] == '-' ? '0' : '-';
+        EXPECT(is_no_uuid(text));
+    }
+    EXPECT(barleyrope_same_uuid(barleyrope_short_uuid(0x180F), barleyrope_short_uuid(0x180F)));
+    EXPECT(!barleyrope_same_uuid(barleyrope_short_uuid(0x180F), barleyrope_short_uuid(0x180A)));
+}
+
+static bool is_no_address(const char *text)
+{
+    barleyrope_address address = barleyrope_address_of(7, true);
+    return !barleyrope_address_from_text(text, false, &address) && address.number == 7 && address.random;
+}
+
+static void addresses(void)
+{
+    static const char whole[] = "C2:11:22:33:44:5F";
+    static const uint8_t octets[6] = {0x5F, 0x44, 0x33, 0x22, 0x11, 0xC2};
+    barleyrope_address address = barleyrope_address_of(0, false);
+    char text[BARLEYROPE_ADDRESS_TEXT + 1];
+    size_t i;
+    EXPECT(barleyrope_address_from_text("c2:11:22:33:44:5f", true, &address));
+    EXPECT(address.number == UINT64_C(0xC2112233445F) && address.random);
+    EXPECT(barleyrope_address_word(address) == UINT64_C(0x1C2112233445F));
+    EXPECT(strcmp(barleyrope_address_to_text(address, text), whole) == 0);
+    address = barleyrope_address_from_octets(octets, false);
+    EXPECT(address.number == UINT64_C(0xC2112233445F) && !address.random);
+    EXPECT(barleyrope_address_word(address) == UINT64_C(0xC2112233445F));
+    EXPECT(barleyrope_address_of(UINT64_MAX, false).number == UINT64_C(0xFFFFFFFFFFFF));
+    EXPECT(is_no_address(NULL) && is_no_address("") && is_no_address("C2-11-22-33-44-5F"));
+    EXPECT(is_no_address("C2:11:22:33:44:5F:00") && is_no_address("C2:11:22:33:44:5F ") && is_no_address("C211:22:33:44:5F0"));
+    for (i = 0; i < 17; i++) {
+        memcpy(text, whole, sizeof whole);
+        text[i] = '\0';
+        EXPECT(is_no_address(text));
+        text[i] = whole[i] == ':' ? '0' : ':';
+        EXPECT(is_no_address(text));
+    }
+}
+
+static void numbers_in_words(void)
+{
+    int i;
+    for (i = 0; i <= 8; i++)
+        EXPECT(strcmp(barleyrope_refusal_text(i), "no such refusal") != 0);
+    EXPECT(strcmp(barleyrope_refusal_text(9), "no such refusal") == 0 && barleyrope_refusal_text(-1) != NULL);
+    for (i = 0; i <= 7; i++)
+        EXPECT(strcmp(barleyrope_status_text(i), "no such status") != 0);
+    EXPECT(strcmp(barleyrope_status_text(8), "no such status") == 0);
+    for (i = 0; i <= 12; i++)
+        EXPECT(strcmp(barleyrope_kind_text((uint64_t)i), "no such step") != 0);
+    EXPECT(strcmp(barleyrope_kind_text(13), "no such step") == 0);
+    EXPECT(barleyrope_pdu_of_hci(0) == BARLEYROPE_ADV_IND && barleyrope_pdu_of_hci(1) == BARLEYROPE_ADV_DIRECT_IND);
+    EXPECT(barleyrope_pdu_of_hci(2) == BARLEYROPE_ADV_SCAN_IND && barleyrope_pdu_of_hci(3) == BARLEYROPE_ADV_NONCONN_IND);
+}
+
+/* ---- steps: the words of each, in their order ------------------------------------------------- */
+
+static bool has_words(barleyrope_step step, const uint64_t words[12])
+{
+    return memcmp(&step, words, sizeof step) == 0;
+}
+
+static void steps(void)
+{
+    const barleyrope_uuid u = barleyrope_uuid_of(5, 4); /* high, low */
+    const uint64_t words[15][12] = {
+        {0, 0, 9, 0, 0, 0, 0, 0, 0, 0, 0, 0},           {1, 0, 9, 0, 0, 0, 0, 2, 3, 1, 0, 0},
+        {1, 0, 9, 0, (UINT64_C(1) << 48) + 6, 0, 1, 2, 3, 1, 0, 0}, {1, 0, 9, 0, 4, 5, 2, 2, 3, 1, 0, 0},
+        {2, 0, 0, 185, 0, 0, 0, 0, 0, 0, 0, 0},         {3, 0, 0, 0, 0, 0, 0, 0, 0, 0, 0, 0},
+        {4, 0, 0, 0, 4, 5, 0, 0, 0, 0, 0, 0},           {5, 1, 0, 0, 4, 5, 0, 0, 0, 0, 0, 0},
+        {6, 1, 0, 0, 4, 5, 0, 0, 0, 0, 7, 8},           {7, 0, 0, 0, 4, 5, 0, 0, 0, 0, 0, 0},
+        {8, 0, 9, 0, 4, 5, 0, 0, 0, 0, 7, 8},           {9, 0, 9, 0, 0, 0, 0, 0, 0, 0, 0, 0},
+        {10, 0, 0, 0, 0, 0, 0, 0, 0, 0, 0, 0},          {11, 1, 0, 0, 0, 0, 0, 0, 0, 0, 0, 0},
+        {12, 1, 0, 0, 0, 0, 0, 0, 0, 0, 0, 0}};
+    EXPECT(has_words(barleyrope_scan(9), words[0]));
+    EXPECT(has_words(barleyrope_connect_any(1, 2, 3, 9), words[1]));
+    EXPECT(has_words(barleyrope_connect_address(barleyrope_address_of(6, true), 1, 2, 3, 9), words[2]));
+    EXPECT(has_words(barleyrope_connect_service(u, 1, 2, 3, 9), words[3]));
+    EXPECT(has_words(barleyrope_exchange_mtu(185), words[4]));
+    EXPECT(has_words(barleyrope_discover_services(), words[5]));
+    EXPECT(has_words(barleyrope_discover_characteristics(u), words[6]));
+    EXPECT(has_words(barleyrope_subscribe(u, true), words[7]));
+    EXPECT(has_words(barleyrope_write(u, true, 7, 8), words[8]));
+    EXPECT(has_words(barleyrope_read(u), words[9]));
+    EXPECT(has_words(barleyrope_wait_notification(u, 9, 7, 8), words[10]));
+    EXPECT(has_words(barleyrope_wait(9), words[11]));
+    EXPECT(has_words(barleyrope_disconnect(), words[12]));
+    EXPECT(has_words(barleyrope_capture(true), words[13]));
+    EXPECT(has_words(barleyrope_capture_secrets(true), words[14]));
+}
+
+/* ---- calls: a short play, in which each wrapper says what happened ------------------------------ */
+
+static barleyrope_state state;
+static uint8_t store[BARLEYROPE_STORE_SIZE], out[BARLEYROPE_OUTPUT_SIZE];
+
+#define HELD &state, store, sizeof store
+#define LENT HELD, out, sizeof out
+
+/* A scan hears one advertiser, with a scan response. */
+static void hears(void)
+{
+    static const uint8_t data[] = {3, 0x03, 0x0F, 0x18}, response[] = {3, 0x03, 0x0A, 0x18};
+    const barleyrope_address who = barleyrope_address_of(UINT64_C(0xC21122334455), true);
+    const barleyrope_step script[] = {barleyrope_scan(100), barleyrope_connect_address(who, 24, 1, 100, 1000)};
+    barleyrope_advertised heard;
+    barleyrope_report report;
+    barleyrope_part part;
+    EXPECT(!barleyrope_get_timer(HELD).is_set && !barleyrope_get_link(HELD).is_up && !barleyrope_get_report(HELD, 0).is_kept);
+    EXPECT(barleyrope_next_index(&state) == 0);
+    EXPECT(barleyrope_push_steps(LENT, 1000, script, 2, NULL, 0).refusal == 0);
+    EXPECT(barleyrope_next_index(&state) == 2 && barleyrope_steps_waiting(&state) == 1 && barleyrope_steps_ended(&state) == 0);
+    EXPECT(barleyrope_get_timer(HELD).is_set && barleyrope_get_timer(HELD).at_us == 101000);
+    heard = barleyrope_on_advertising(HELD, 2000, 38, BARLEYROPE_ADV_IND, who, data, sizeof data, false);
+    EXPECT(heard.refusal == 0 && heard.action == BARLEYROPE_ACTION_SCAN_REQUEST);
+    EXPECT(barleyrope_get_report(HELD, 0).response == NULL && barleyrope_get_report_response(HELD, 0).data == NULL);
+    EXPECT(barleyrope_on_scan_response(HELD, 3000, who, response, sizeof response) == 0);
+    report = barleyrope_get_report(HELD, 0);
+    EXPECT(report.is_kept && report.at_us == 3000 && report.channel == 38 && report.pdu == BARLEYROPE_ADV_IND);
+    EXPECT(report.address.number == who.number && report.address.random);
+    EXPECT(report.data_len == sizeof data && memcmp(report.data, data, sizeof data) == 0);
+    EXPECT(report.response_len == sizeof response && memcmp(report.response, response, sizeof response) == 0);
+    EXPECT(barleyrope_get_report_data(HELD, 0).data == report.data && barleyrope_get_report_response(HELD, 0).data == report.response);
+    part = barleyrope_find_in_report(HELD, 0, barleyrope_short_uuid(0x180A));
+    EXPECT(part.refusal == 0 && part.data == report.response + 2 && part.len == 2);
+    EXPECT(barleyrope_find_in_report(HELD, 0, barleyrope_short_uuid(0x1800)).data == NULL);
+    EXPECT(barleyrope_on_timer(LENT, 101000).refusal == 0 && barleyrope_steps_ended(&state) == 1);
+    heard = barleyrope_on_advertising(HELD, 102000, 38, BARLEYROPE_ADV_IND, who, data, sizeof data, false);
+    EXPECT(heard.action == BARLEYROPE_ACTION_CONNECT && heard.interval == 24 && heard.latency == 1 && heard.timeout == 100);
+}
+
+/* On the link, the head asks for other parameters; a read finds nothing; the link ends. */
+static void talks(void)
+{
+    static const uint8_t update[] = {12, 0, 5, 0, 0x12, 7, 8, 0, 6, 0, 12, 0, 0, 0, 200, 0};
+    static const uint8_t granted[] = {6, 0, 5, 0, 0x13, 7, 2, 0, 0, 0};
+    const barleyrope_step script[] = {barleyrope_read(barleyrope_short_uuid(0x2A19)), barleyrope_disconnect()};
+    barleyrope_answer a = barleyrope_on_connected(LENT, 0x40, 110000);
+    barleyrope_result r = barleyrope_get_result(HELD, 1);
+    EXPECT(a.refusal == 0 && a.frames == 0 && r.is_kept && r.status == BARLEYROPE_OK && r.at_us == 110000 && r.value_len == 0);
+    EXPECT(barleyrope_get_link(HELD).is_up && barleyrope_get_link(HELD).handle == 0x40);
+    a = barleyrope_on_fragment(LENT, 120000, true, update, sizeof update);
+    EXPECT(a.refusal == 0 && a.frames == 1 && a.bytes == sizeof granted && memcmp(out, granted, sizeof granted) == 0);
+    EXPECT(barleyrope_frame_size(out) == sizeof granted);
+    EXPECT(a.request == BARLEYROPE_REQUEST_UPDATE && a.interval == 12 && a.latency == 0 && a.timeout == 200 && a.reason == 0);
+    a = barleyrope_push_steps(LENT, 130000, script, 2, NULL, 0);
+    EXPECT(a.refusal == 0 && a.request == BARLEYROPE_REQUEST_TERMINATE && a.reason == 0x13);
+    EXPECT(barleyrope_get_result(HELD, 2).status == BARLEYROPE_NOT_FOUND && !barleyrope_get_result(HELD, 3).is_kept);
+    EXPECT(barleyrope_on_disconnected(HELD, 140000) == 0 && barleyrope_get_result(HELD, 3).status == BARLEYROPE_OK);
+    EXPECT(barleyrope_steps_ended(&state) == 4 && barleyrope_dropped_steps(&state) == 0);
+}
+
+static void refusals(void)
+{
+    static uint8_t big[252];
+    const barleyrope_step wrong[] = {barleyrope_exchange_mtu(248), barleyrope_write(barleyrope_short_uuid(1), true, 0, 1)};
+    const barleyrope_step wait = barleyrope_wait(1000);
+    static barleyrope_step many[BARLEYROPE_MAX_STEPS + 1];
+    size_t i;
+    EXPECT(barleyrope_on_timer(HELD, out, sizeof out - 1, 0).refusal == BARLEYROPE_WRONG_SIZE);
+    EXPECT(barleyrope_on_timer(&state, NULL, 0, out, sizeof out, 0).refusal == BARLEYROPE_WRONG_SIZE);
+    EXPECT(barleyrope_on_timer(LENT, (UINT64_C(1) << 62) + 1).refusal == BARLEYROPE_LATE_TIME);
+    EXPECT(barleyrope_push_steps(LENT, 0, &wrong[0], 1, NULL, 0).refusal == BARLEYROPE_BAD_BATCH);
+    EXPECT(barleyrope_push_steps(LENT, 0, &wrong[1], 1, NULL, 0).refusal == BARLEYROPE_BAD_BATCH);
+    EXPECT(barleyrope_push_steps(LENT, 0, many, BARLEYROPE_MAX_STEPS + 1, NULL, 0).refusal == BARLEYROPE_BAD_BATCH);
+    EXPECT(barleyrope_push_steps(LENT, 0, NULL, SIZE_MAX, NULL, 0).refusal == BARLEYROPE_BAD_BATCH);
+    EXPECT(barleyrope_push_steps(LENT, 0, NULL, 0, NULL, 0).refusal == BARLEYROPE_ACCEPTED);
+    EXPECT(barleyrope_on_scan_response(HELD, 0, barleyrope_address_of(1, false), big, 32) == BARLEYROPE_LONG_DATA);
+    EXPECT(barleyrope_on_connected(LENT, 1, 0).refusal == 0);
+    EXPECT(barleyrope_on_fragment(LENT, 0, true, big, sizeof big).refusal == BARLEYROPE_LONG_FRAME);
+    /* one runs, 64 wait, one is dropped */
+    for (i = 0; i < BARLEYROPE_MAX_STEPS; i++)
+        many[i] = wait;
+    EXPECT(barleyrope_push_steps(LENT, 0, &wait, 1, NULL, 0).refusal == 0);
+    EXPECT(barleyrope_push_steps(LENT, 0, many, BARLEYROPE_MAX_STEPS, NULL, 0).refusal == 0);
+    EXPECT(barleyrope_steps_waiting(&state) == BARLEYROPE_MAX_STEPS && barleyrope_dropped_steps(&state) == 0);
+    EXPECT(barleyrope_push_steps(LENT, 0, &wait, 1, NULL, 0).refusal == 0 && barleyrope_dropped_steps(&state) == 1);
+    state.core[27] = 65;
+    EXPECT(barleyrope_on_timer(LENT, 0).refusal == BARLEYROPE_UNFIT && barleyrope_get_timer(HELD).refusal == BARLEYROPE_UNFIT);
+}
+
+int main(void)
+{
+    uuids();
+    addresses();
+    numbers_in_words();
+    steps();
+    hears();
+    talks();
+    refusals();
+    printf("%lu checks, %lu failed\n", checks, failures);
+    return failures == 0 ? 0 : 1;
+}
