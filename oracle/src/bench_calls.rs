@@ -9,6 +9,8 @@
 
 #[path = "bench/c.rs"]
 mod c;
+#[path = "bench/c_words.rs"]
+mod c_words;
 #[allow(dead_code)]
 #[path = "compare/exports.rs"]
 mod exports;
@@ -23,8 +25,10 @@ mod setup;
 #[allow(dead_code)]
 #[path = "compare/state.rs"]
 mod state;
+#[path = "bench/states.rs"]
+mod states;
 
-use oracle::ble::central::{AdvReport, Central, Characteristic, Running, Step, Uuid};
+use oracle::ble::central::Central;
 use setup::Lent;
 use std::ffi::c_int;
 use std::hint::black_box;
@@ -89,28 +93,7 @@ pub fn rust_states(states: u32, state: impl Fn() -> Central, mut f: impl FnMut(&
     timed(|| all.iter_mut().fold(0, |told, c| f(c).wrapping_add(told)))
 }
 
-// ---- the Rust's states
-
-/// A UUID that no one lists.
-pub fn unlisted() -> Uuid {
-    let mut uuid = [0; 16];
-    (uuid[0], uuid[8]) = (1, 2);
-    Uuid(uuid)
-}
-
-pub fn known(count: u16) -> Vec<Characteristic> {
-    let one = |n| Characteristic { declaration: n, value_handle: n, uuid: unlisted(), ..Characteristic::default() };
-    (1..=count).map(one).collect()
-}
-
-pub fn running(step: Step, deadline_us: u64, phase: u8) -> Option<Running> {
-    Some(Running { index: 0, step, deadline_us: Some(deadline_us), phase, cursor: 1, scan_requested: Vec::new() })
-}
-
-/// As crates/tool_bench/src/begin.rt has it of every state.
-pub fn begun() -> Central {
-    Central { next_index: 1, reports: vec![AdvReport::default(); 64], ..Central::default() }
-}
+// ---- what the loops sum
 
 /// As after each event: nothing stays queued. How many bytes went out.
 pub fn taken(c: &mut Central) -> u64 {

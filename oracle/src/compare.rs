@@ -107,7 +107,7 @@ fn told() -> Result<ExitCode, String> {
     let start = Instant::now();
     let mut counts = Counts::default();
     let (differing, found) = run(&port, &o, &mut counts)?;
-    let shown = Shown { counts, took: start.elapsed(), differing, found };
+    let shown = Shown { counts, took: start.elapsed(), views: Vec::new(), differing, found };
     Ok(verdict::give(&o, shown, Live::new(&port)))
 }
 

@@ -3,8 +3,8 @@
 //!   compare_c [seed N] [count N] [total N] [calls N] [dumps N] [groups script,radio,link] [save FOLDER] [refusals] [few] [first]
 //!
 //! The words are those of `compare`, whose generator, gate and answers it shares. Every answer is compared, with the bytes sent;
-//! at a dump the state that the words say, with the Rust's own, and the views of one report; at a refusal, that nothing lent has
-//! changed.
+//! at a dump the state that the words say, with the Rust's own, and the four views of one report; at a refusal, that nothing lent
+//! has changed.
 
 #[path = "compare/asked.rs"]
 mod asked;
@@ -14,12 +14,18 @@ mod c_port;
 mod exports;
 #[path = "compare/options.rs"]
 mod options;
+mod port {
+    pub type Number = u128;
+}
 #[path = "compare/report.rs"]
 mod report;
 #[allow(dead_code)]
 mod sequence;
 #[path = "compare/shrink.rs"]
 mod shrink;
+#[allow(dead_code)]
+#[path = "leaf/slow.rs"]
+mod slow;
 #[path = "compare/state.rs"]
 mod state;
 #[allow(dead_code)]
@@ -33,7 +39,7 @@ mod words;
 
 use c_port::Port;
 use options::Options;
-use oracle::ble::central::{Central, Uuid};
+use oracle::ble::central::Central;
 use sequence::counts::Counts;
 use sequence::{Witness, make};
 use std::process::ExitCode;
@@ -41,9 +47,8 @@ use std::time::{Duration, Instant};
 use trace::Call;
 use trace::answer::{self, Answer};
 use verdict::{Difference, Shown};
+use views::{CASES, Met};
 
-/// A service that some advertisers of a sequence list.
-const LISTED: u16 = 0x180F;
 /// How often a long run says how far it is.
 const PROGRESS: Duration = Duration::from_secs(20);
 
@@ -54,6 +59,8 @@ struct Beside {
     at: usize,
     /// Answers that were equal, in all sequences, before the first that differs.
     equal: u64,
+    /// What the views have met.
+    met: Met,
     /// In this sequence: where it differs, and both lines.
     differs: Option<(usize, Vec<u8>, Vec<u8>)>,
 }
@@ -66,7 +73,7 @@ impl Beside {
             Answer::State => {
                 // One report, the place behind the last too: each has its turn.
                 let i = self.equal as usize % (left.reports.len() + 1);
-                let wrong = views::fault(&self.port.memory, i, Uuid::from_u16(LISTED), left.reports.get(i));
+                let wrong = views::fault(&self.port.memory, i, left.reports.get(i), &mut self.met);
                 wrong.map_or(Answer::State, Answer::Other)
             }
             _ => self.port.answer(call),
@@ -97,7 +104,7 @@ impl Witness for Beside {
 fn run(o: &Options) -> (Shown, Port) {
     let (start, mut told) = (Instant::now(), Duration::ZERO);
     let mut counts = Counts::default();
-    let mut beside = Beside { port: Port::new(), at: 0, equal: 0, differs: None };
+    let mut beside = Beside { port: Port::new(), at: 0, equal: 0, met: Met::default(), differs: None };
     let (mut number, mut differing, mut found) = (0, 0, None);
     while number < o.count && (o.total == 0 || counts.made() < o.total) {
         (beside.at, beside.differs) = (0, None);
@@ -117,7 +124,8 @@ fn run(o: &Options) -> (Shown, Port) {
             eprintln!("{} calls, {:.0} s, differences {differing}", counts.made(), took.as_secs_f64());
         }
     }
-    (Shown { counts, took: start.elapsed(), differing, found }, beside.port)
+    let views = if o.plan.groups.radio { CASES.into_iter().zip(beside.met).collect() } else { Vec::new() };
+    (Shown { counts, took: start.elapsed(), views, differing, found }, beside.port)
 }
 
 fn main() -> ExitCode {

@@ -48,7 +48,7 @@ fn bearer(r: Row) -> Bearer {
     Bearer {
         held: 0,
         link: Link {
-            handle: 64,
+            handle: crate::row::HANDLE,
             mtu: 247,
             pending: r.pending,
             terminating: false,

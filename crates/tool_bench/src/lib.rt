@@ -2,6 +2,7 @@
 // Rust. Each answers one number of what its calls gave and left, which both sides must agree on. A loop of 0 calls is its set-up alone.
 //
 // Each call stands here once, in its loop, so that the compiler can take it into the loop; crate tool_bench_mixed has callers of several.
+// All seven that change a state are here, as in a program that uses the library: what one call alone needs would be compiled into it.
 pub mod begin;
 pub mod hear;
 pub mod play;
@@ -56,6 +57,17 @@ pub extern "C" fn lent_timers(
     let r = row::timed();
     begin::lay_tables(tables, r);
     play::timers(begin::core(r), tables, store, out, n)
+}
+
+// What n links cost that come and go.
+#[no_mangle]
+pub extern "C" fn lent_links(
+    n: u32,
+    tables: &mut [u64; 1056],
+    store: &mut [u8],
+    out: &mut [u8],
+) -> u64 {
+    play::links(tables, store, out, n)
 }
 
 // What n fragments cost on a state with a link. Row 0: each is a notification that ends a wait. Row 1: a wait runs that looks at all

@@ -1,4 +1,4 @@
-// Batches and timer calls.
+// Batches, timer calls and links.
 use crate::begin;
 use crate::row;
 use crate::told;
@@ -72,4 +72,21 @@ pub fn timers(
         i += 1;
     }
     told::with_core(sum, c)
+}
+
+// n links on an idle state: each comes, and goes again.
+pub fn links(tables: &mut [u64; 1056], store: &mut [u8], out: &mut [u8], n: u32) -> u64 {
+    let mut c = begin::idle();
+    let mut sum = 0;
+    let mut i = 0;
+    while i < n {
+        let at = Micros(i as u64);
+        let met = script_events::on_connected(c, tables, store, out, row::HANDLE, at);
+        let parted = script_events::on_disconnected(met.core, tables, store, at);
+        c = parted.core;
+        let s = told::with_call(sum, met.refusal, met.core.bearer.link.handle as usize);
+        sum = told::with_call(s, parted.refusal, c.counts.results);
+        i += 1;
+    }
+    sum
 }

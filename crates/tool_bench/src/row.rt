@@ -24,6 +24,9 @@ pub struct Row {
     pub response: u8,
 }
 
+// The link's.
+pub const HANDLE: u16 = 64;
+
 const LATE: Micros = Micros(60_000_000);
 
 const LONG: Millis = Millis(60_000);

@@ -37,6 +37,12 @@ pub extern "C" fn value_timers(n: u32, store: &mut [u8], out: &mut [u8]) -> u64 
     play::timers(begin::state(row::timed()), store, out, n)
 }
 
+// What n links cost that come and go.
+#[no_mangle]
+pub extern "C" fn value_links(n: u32, store: &mut [u8], out: &mut [u8]) -> u64 {
+    play::links(store, out, n)
+}
+
 // What n fragments cost, by the rows of lent_fragments.
 #[no_mangle]
 pub extern "C" fn value_fragments(

@@ -1,7 +1,8 @@
-// Batches and timer calls.
+// Batches, timer calls and links.
 use central::State;
 use time::Micros;
 use tool_bench::play;
+use tool_bench::row;
 use tool_bench::told;
 
 // The same batch n times, each on a fresh state.
@@ -32,4 +33,21 @@ pub fn timers(s: State, store: &mut [u8], out: &mut [u8], n: u32) -> u64 {
         i += 1;
     }
     told::with_core(sum, t.core)
+}
+
+// n links on a fresh state: each comes, and goes again.
+pub fn links(store: &mut [u8], out: &mut [u8], n: u32) -> u64 {
+    let mut t = central::fresh::fresh();
+    let mut sum = 0;
+    let mut i = 0;
+    while i < n {
+        let at = Micros(i as u64);
+        let met = central::on_connected(t, store, out, row::HANDLE, at);
+        let parted = central::on_disconnected(met.state, store, at);
+        t = parted.state;
+        let s = told::with_call(sum, met.refusal, met.state.core.bearer.link.handle as usize);
+        sum = told::with_call(s, parted.refusal, t.core.counts.results);
+        i += 1;
+    }
+    sum
 }

@@ -2,9 +2,10 @@
 
 use crate::c;
 use crate::exports::Memory;
-use crate::setup::{CALLS_A_SET_UP, HEARD, KEPT, Lent, Talk, WORDS, lend_values};
-use crate::{Form, begun, compare, known, port_states, running, rust_states, taken, told, unlisted};
-use oracle::ble::central::{Central, CentralLink, Notification, Service, Step};
+use crate::setup::{CALLS_A_SET_UP, Lent, Talk, WORDS, lend_values};
+use crate::states::linked;
+use crate::{Form, compare, port_states, rust_states, taken, told};
+use oracle::ble::central::Central;
 
 unsafe extern "C" {
     fn lent_fragments(
@@ -30,40 +31,6 @@ unsafe extern "C" {
         fragment: *const u8,
         len: usize,
     ) -> u64;
-}
-
-fn step(talk: Talk) -> Step {
-    let characteristic = unlisted();
-    match talk {
-        Talk::Reads => Step::Read { characteristic },
-        Talk::Discovers => Step::DiscoverCharacteristics { service: unlisted() },
-        _ => Step::WaitNotification { characteristic, contains: talk.needle().to_vec(), within_ms: 60_000 },
-    }
-}
-
-fn pending(talk: Talk) -> Option<u8> {
-    match talk {
-        Talk::Reads => Some(0x0A),
-        Talk::Discovers => Some(0x08),
-        _ => None,
-    }
-}
-
-/// As crates/tool_bench/src/row.rt has it.
-fn linked(talk: Talk) -> Central {
-    let queued = if matches!(talk, Talk::Ends | Talk::Reads) { CALLS_A_SET_UP as usize } else { 0 };
-    let heard = Notification { at_us: 0, handle: 1, value: HEARD.to_vec(), indication: false };
-    Central {
-        queue: vec![step(talk); queued],
-        running: running(step(talk), 60_000_000, u8::from(talk == Talk::Discovers)),
-        link: Some(CentralLink { handle: 64, mtu: 247, pending: pending(talk), ..CentralLink::default() }),
-        services: vec![Service { start: 1, end: 255, uuid: unlisted() }],
-        characteristics: known(if talk == Talk::Discovers { 0 } else { 20 }),
-        notifications: vec![heard; KEPT],
-        notified: KEPT as u64,
-        wait_from: if talk == Talk::Ends { KEPT as u64 } else { 0 },
-        ..begun()
-    }
 }
 
 #[inline(never)]

@@ -1,9 +1,11 @@
 //! Advertisements, and a round of three calls.
 
 use crate::c;
+use crate::c_words;
 use crate::exports::Memory;
 use crate::setup::{DATA, Lent, WORDS};
-use crate::{Form, Took, compare, known, less_set_up, running, timed, told, unlisted};
+use crate::states::{known, running, unlisted};
+use crate::{Form, Took, compare, less_set_up, timed, told};
 use oracle::ble::central::{AdvAction, Central, Notification, Service, Step, StepResult, StepStatus, Target};
 use std::hint::black_box;
 
@@ -185,7 +187,7 @@ fn port_mixed(l: &mut Lent, form: Form, n: u32) -> u64 {
 }
 
 fn c_advertise(m: &mut Memory, at: u32, who: u32) -> u64 {
-    let seen = (37, 0, c::number_of(&address(who), true));
+    let seen = (37, 0, c_words::number_of(&address(who), true));
     m.on_advertising(u64::from(at), seen, &DATA, false)[1] + 1
 }
 
@@ -204,7 +206,7 @@ fn c_mixed(m: &mut Memory, advertisers: u32) -> u64 {
     let (mut sum, mut who) = (0, 0);
     for i in 0..CALLS {
         sum += c_advertise(m, i, who);
-        m.on_scan_response(u64::from(i), c::number_of(&address(who), true), &DATA);
+        m.on_scan_response(u64::from(i), c_words::number_of(&address(who), true), &DATA);
         m.on_timer(u64::from(i));
         who = after(who, advertisers);
     }

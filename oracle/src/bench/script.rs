@@ -1,9 +1,11 @@
-//! Batches and timer calls.
+//! Batches, timer calls and links.
 
 use crate::c;
+use crate::c_words;
 use crate::exports::Memory;
 use crate::setup::{CALLS_A_SET_UP, Lent, WORDS};
-use crate::{Form, begun, compare, less_set_up, port_states, running, rust_states, taken, timed, told};
+use crate::states::{ENDS_AT_ONCE, WAIT, waiting};
+use crate::{Form, compare, less_set_up, port_states, rust_states, taken, timed, told};
 use oracle::ble::central::{Central, Step};
 use std::hint::black_box;
 
@@ -38,10 +40,18 @@ unsafe extern "C" {
         out_len: usize,
     ) -> u64;
     fn value_timers(n: u32, store: *mut u8, store_len: usize, out: *mut u8, out_len: usize) -> u64;
+    fn lent_links(
+        n: u32,
+        tables: *mut [u64; WORDS],
+        store: *mut u8,
+        store_len: usize,
+        out: *mut u8,
+        out_len: usize,
+    ) -> u64;
+    fn value_links(n: u32, store: *mut u8, store_len: usize, out: *mut u8, out_len: usize) -> u64;
 }
 
-const WAIT: Step = Step::Wait { ms: 1 };
-const ENDS_AT_ONCE: Step = Step::Capture { enabled: true };
+const HANDLE: u16 = 64;
 
 /// Each batch on a fresh state. It is handed over, so each has its own.
 #[inline(never)]
@@ -63,9 +73,17 @@ fn rust_timers(c: &mut Central) -> u64 {
     told(0, c)
 }
 
-/// A wait runs until 1 ms, and 64 more wait.
-fn waiting() -> Central {
-    Central { running: running(WAIT, 1000, 0), queue: vec![WAIT; CALLS_A_SET_UP as usize], ..begun() }
+/// Each link comes, and goes again.
+#[inline(never)]
+fn rust_links(c: &mut Central, n: u32) -> u64 {
+    (0..u64::from(n)).fold(0, |sum, at| {
+        c.on_connected(HANDLE, at);
+        let handle = c.link.as_ref().map_or(0, |l| u64::from(l.handle));
+        taken(c);
+        c.on_disconnected(at);
+        taken(c);
+        sum + handle + c.results.len() as u64
+    })
 }
 
 fn port_batches(l: &mut Lent, form: Form, n: u32, ends: bool) -> u64 {
@@ -113,6 +131,29 @@ fn port_timers(l: &mut Lent, form: Form, n: u32) -> u64 {
     }
 }
 
+fn port_links(l: &mut Lent, form: Form, n: u32) -> u64 {
+    let (store, size) = (l.store.as_mut_ptr(), l.store.len());
+    let (out, room) = (l.out.as_mut_ptr(), l.out.len());
+    // SAFETY: each pointer goes with the length of its own slice.
+    unsafe {
+        match form {
+            Form::Lent => lent_links(n, &mut *l.tables, store, size, out, room),
+            Form::ByValue => value_links(n, store, size, out, room),
+            Form::C => unreachable!("on words of its own"),
+        }
+    }
+}
+
+#[inline(never)]
+fn c_links(m: &mut Memory, n: u32) -> u64 {
+    (0..u64::from(n)).fold(0, |sum, at| {
+        m.on_connected(HANDLE, at);
+        let handle = m.core[18];
+        m.on_disconnected(at);
+        sum + handle + m.core[28]
+    })
+}
+
 pub fn rows(l: &mut Lent, rounds: usize) {
     const BATCHES: u32 = 40;
     for (name, step, ends) in
@@ -122,7 +163,7 @@ pub fn rows(l: &mut Lent, rounds: usize) {
             let batches = vec![vec![step.clone(); 64]; BATCHES as usize];
             timed(|| rust_batches(batches))
         };
-        let (mut memory, words) = (Memory::new(), c::batch_words(&vec![step.clone(); 64]));
+        let (mut memory, words) = (Memory::new(), c_words::batch_words(&vec![step.clone(); 64]));
         let port = |form| match form {
             Form::C => timed(|| c_batches(&mut memory, BATCHES, &words)),
             _ => less_set_up(BATCHES, |n| port_batches(l, form, n, ends)),
@@ -136,4 +177,12 @@ pub fn rows(l: &mut Lent, rounds: usize) {
         _ => port_states(STATES, CALLS_A_SET_UP, |n| port_timers(l, form, n)),
     };
     compare("a timer call that ends a step", CALLS_A_SET_UP * STATES, rounds, rust, port);
+    const LINKS: u32 = 1_000;
+    let (mut central, mut memory) = (Central::default(), Memory::new());
+    let rust = || timed(|| rust_links(&mut central, LINKS));
+    let port = |form| match form {
+        Form::C => timed(|| c_links(&mut memory, LINKS)),
+        _ => less_set_up(LINKS, |n| port_links(l, form, n)),
+    };
+    compare("a link that comes and goes, nothing runs", 2 * LINKS, rounds, rust, port);
 }

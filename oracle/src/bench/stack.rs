@@ -1,9 +1,8 @@
-//! The stack that each call on lent tables needs: it is made once (crates/tool_stack), on a thread whose stack was painted before, and
-//! the lowest byte that changed is looked for. What an empty thread needs is taken off. The caller's tables, store and bytes are not
-//! on that stack; its core, and its batch of steps, which go by value, are.
+//! The stack that each call on lent tables needs (crates/tool_stack). The caller's tables, store and bytes are not on it; its core, and
+//! its batch of steps, which go by value, are.
 
+use crate::painted::Rows;
 use crate::setup::{DATA, Lent, Talk, WORDS, lend_values};
-use std::ffi::{c_int, c_void};
 
 unsafe extern "C" {
     fn stack_lay_connecting(tables: *mut [u64; WORDS]);
@@ -63,78 +62,10 @@ unsafe extern "C" {
     fn stack_timer_us(tables: *const [u64; WORDS], store: *const u8, store_len: usize) -> u8;
     fn stack_connected_handle(tables: *const [u64; WORDS], store: *const u8, store_len: usize) -> u8;
     fn stack_result(tables: *const [u64; WORDS], store: *const u8, store_len: usize, index: u32) -> u8;
-
-    fn pthread_attr_init(attr: *mut Attributes) -> c_int;
-    fn pthread_attr_setstack(attr: *mut Attributes, stack: *mut c_void, size: usize) -> c_int;
-    fn pthread_create(
-        thread: *mut usize,
-        attr: *const Attributes,
-        run: extern "C" fn(*mut c_void) -> *mut c_void,
-        with: *mut c_void,
-    ) -> c_int;
-    fn pthread_join(thread: usize, answer: *mut *mut c_void) -> c_int;
 }
 
-/// Room for a `pthread_attr_t`, which glibc gives at most 64 bytes.
-#[repr(C, align(16))]
-struct Attributes([u8; 128]);
-
-const SIZE: usize = 1 << 20;
-const PAINT: u8 = 0xA5;
-
-#[repr(C, align(4096))]
-struct Painted([u8; SIZE]);
-
-/// What the thread runs: a call, and its answer.
-struct Work<'a> {
-    call: &'a mut dyn FnMut() -> u8,
-    answer: u8,
-}
-
-extern "C" fn run(work: *mut c_void) -> *mut c_void {
-    // SAFETY: `used` lends it until the thread has ended.
-    let work = unsafe { &mut *work.cast::<Work>() };
-    work.answer = (work.call)();
-    std::ptr::null_mut()
-}
-
-/// How many bytes of a painted stack were written, and what the call answered.
-fn used(call: &mut dyn FnMut() -> u8) -> (usize, u8) {
-    let mut stack: Box<[Painted]> = Vec::from_iter([Painted([PAINT; SIZE])]).into_boxed_slice();
-    let mut work = Work { call, answer: 0 };
-    let (mut attr, mut thread) = (Attributes([0; 128]), 0);
-    // SAFETY: the stack and the work live until the thread has ended.
-    let ended = unsafe {
-        pthread_attr_init(&mut attr)
-            | pthread_attr_setstack(&mut attr, stack.as_mut_ptr().cast(), SIZE)
-            | pthread_create(&mut thread, &attr, run, (&raw mut work).cast())
-            | pthread_join(thread, std::ptr::null_mut())
-    };
-    assert_eq!(ended, 0, "a thread on a painted stack");
-    let untouched = stack[0].0.iter().position(|b| std::hint::black_box(*b) != PAINT).unwrap_or(SIZE);
-    (SIZE - untouched, work.answer)
-}
-
-/// The most that a call may need, and one that may check a wait.
+/// The most that a call may need.
 const MOST: usize = 12_288;
-const MOST_WITH_A_WAIT: usize = 20_480;
-
-/// Prints each row; how many are over their bound.
-struct Rows {
-    empty: usize,
-    over: usize,
-}
-
-impl Rows {
-    fn row(&mut self, name: &str, most: usize, call: &mut dyn FnMut() -> u8) {
-        let (bytes, refusal) = used(call);
-        assert_eq!(refusal, 0, "{name} was refused");
-        let bytes = bytes - self.empty;
-        self.over += usize::from(bytes > most);
-        let verdict = if bytes > most { ": TOO MUCH" } else { "" };
-        println!("stack of {name:39} {bytes:6} bytes, at most {most:6}{verdict}");
-    }
-}
 
 /// What a wait looks for in the lent values.
 const SOUGHT: [u8; 4] = *b"full";
@@ -153,15 +84,15 @@ fn with_a_wait(rows: &mut Rows, l: &mut Lent) {
         };
         let ends = if checks { does } else { ", 64 steps that end at once" };
         lay(stack_lay_timed);
-        rows.row(&format!("push_steps{ends}"), MOST_WITH_A_WAIT, &mut || unsafe {
+        rows.row(&format!("push_steps{ends}"), MOST, &mut || unsafe {
             stack_push_steps(checks, tables, store, size, out, room, values, len)
         });
         lay(stack_lay_timed);
-        rows.row(&format!("on_timer{does}"), MOST_WITH_A_WAIT, &mut || unsafe {
+        rows.row(&format!("on_timer{does}"), MOST, &mut || unsafe {
             stack_on_timer(checks, tables, store, size, out, room)
         });
         lay(stack_lay_connecting);
-        rows.row(&format!("on_connected{does}"), MOST_WITH_A_WAIT, &mut || unsafe {
+        rows.row(&format!("on_connected{does}"), MOST, &mut || unsafe {
             stack_on_connected(checks, tables, store, size, out, room)
         });
     }
@@ -179,7 +110,7 @@ fn fragments(rows: &mut Rows, l: &mut Lent) {
         let (tables, store, out) = (&mut *l.tables, &mut l.store, &mut l.out);
         // SAFETY: each pointer goes with the length of its own slice.
         unsafe { stack_lay_talking(tables, talk as u8) };
-        rows.row(name, MOST_WITH_A_WAIT, &mut || unsafe {
+        rows.row(name, MOST, &mut || unsafe {
             stack_on_fragment(
                 talk as u8,
                 tables,
@@ -212,11 +143,8 @@ fn without_a_wait(rows: &mut Rows, l: &mut Lent) {
     }
 }
 
-/// Prints every row; whether all are within their bounds.
-pub fn rows(l: &mut Lent) -> bool {
-    let mut rows = Rows { empty: used(&mut || 0).0, over: 0 };
-    with_a_wait(&mut rows, l);
-    fragments(&mut rows, l);
-    without_a_wait(&mut rows, l);
-    rows.over == 0
+pub fn rows(rows: &mut Rows, l: &mut Lent) {
+    with_a_wait(rows, l);
+    fragments(rows, l);
+    without_a_wait(rows, l);
 }

@@ -33,10 +33,10 @@ const WAITING_AT: usize = 244;
 const RESULTS_AT: usize = 15_860;
 const NOTIFICATIONS_AT: usize = 31_604;
 const HELD_AT: usize = 39_412;
-const REPORTS_AT: usize = 39_663;
+pub const REPORTS_AT: usize = 39_663;
 const MAX_VALUE: usize = 244;
 const MAX_RESULT_VALUE: usize = 246;
-const MAX_DATA: usize = 31;
+pub const MAX_DATA: usize = 31;
 
 /// A step taken apart.
 struct Flat {

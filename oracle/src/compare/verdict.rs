@@ -24,6 +24,8 @@ pub struct Difference {
 pub struct Shown {
     pub counts: Counts,
     pub took: Duration,
+    /// What the views of reports have met, and how often; none where there are none.
+    pub views: Vec<(&'static str, u64)>,
     /// Sequences that differ, and the first of them.
     pub differing: u64,
     pub found: Option<Difference>,
@@ -53,7 +55,12 @@ pub fn give(o: &Options, shown: Shown, port: impl Asked) -> ExitCode {
         return first(o, shown.found, shown.counts.calls[0]);
     }
     report::print(o, &shown.counts, shown.took);
-    let empty = report::empty(&shown.counts, o.plan);
+    let mut empty = report::empty(&shown.counts, o.plan);
+    if !shown.views.is_empty() {
+        let met: Vec<String> = shown.views.iter().map(|(what, n)| format!("{what} {n}")).collect();
+        println!("views have met: {}\n", met.join(", "));
+    }
+    empty.extend(shown.views.iter().filter(|v| v.1 == 0).map(|v| format!("a view that meets {}", v.0)));
     for cell in &empty {
         println!("never seen: {cell}");
     }

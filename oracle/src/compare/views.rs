@@ -1,67 +1,163 @@
-//! The views of a kept report through the C interface, beside the Rust's report: the calls of a trace read none.
+//! The views of a kept report through the C interface, beside the Rust's report: the calls of a trace read none. Every word that a
+//! view tells is computed here once more: the places by the layout of the store, the body by leaf/slow.rs.
 
 use crate::c_port::{halves, number_of};
 use crate::exports::{Memory, Seen, Told};
+use crate::slow::{self, Number};
+use crate::state::{MAX_DATA, REPORTS_AT};
 use oracle::ble::central::{AdvReport, Uuid, ad_lists_service};
 
-/// Some bytes of the store, by their place and length.
-fn part(m: &Memory, place: u64, len: u64) -> Option<&[u8]> {
-    let (at, len) = (place as usize, len as usize);
-    m.store.get(at..at.checked_add(len)?)
+/// A service that some advertisers of a sequence list.
+const LISTED: u16 = 0x180F;
+
+/// What a view can come upon.
+#[derive(Clone, Copy)]
+enum Case {
+    BehindTheLast,
+    NoResponse,
+    EmptyResponse,
+    Response,
+    InData,
+    InResponse,
+    InBoth,
+    Nowhere,
+    By2,
+    By4,
+    By16,
 }
 
-/// The bytes that a view of one part tells; none where it tells that there are none.
-fn spot<'a>(m: &'a Memory, told: &Told) -> Result<Option<&'a [u8]>, String> {
-    match *told {
-        [0, 0, 0, 0, 0, 0, 0, 0] => Ok(None),
-        [0, 1, place, len, 0, 0, 0, 0] => part(m, place, len).map(Some).ok_or(format!("outside the store: {told:?}")),
-        _ => Err(format!("told {told:?}")),
+pub const CASES: [&str; 11] = [
+    "a place behind the last report",
+    "no scan response",
+    "an empty scan response",
+    "a scan response",
+    "a service in the data",
+    "a service in the scan response alone",
+    "a service in both",
+    "a service in neither",
+    "a list of 2 bytes each",
+    "a list of 4 bytes each",
+    "a list of 16 bytes each",
+];
+
+/// How often each was met.
+pub type Met = [u64; CASES.len()];
+
+/// A part of the store by its place and length.
+type Span = (usize, usize);
+
+/// Where the data of report `i` stands, and its scan response.
+fn spans(i: usize, r: &AdvReport) -> (Span, Option<Span>) {
+    let at = REPORTS_AT + 2 * MAX_DATA * i;
+    ((at, r.data.len()), r.scan_response.as_ref().map(|s| (at + MAX_DATA, s.len())))
+}
+
+fn there(m: &Memory, (at, len): Span, wanted: &[u8]) -> bool {
+    m.store.get(at..at + len) == Some(wanted)
+}
+
+fn seen_words(i: usize, r: &AdvReport) -> Seen {
+    let (data, response) = spans(i, r);
+    let (at, len) = response.unwrap_or_default();
+    [
+        0,
+        1,
+        r.at_us,
+        r.channel.into(),
+        r.pdu_type.into(),
+        number_of(&r.address, r.random),
+        data.0 as u64,
+        data.1 as u64,
+        u64::from(response.is_some()),
+        at as u64,
+        len as u64,
+        0,
+    ]
+}
+
+fn span_words(span: Option<Span>) -> Told {
+    match span {
+        None => [0; 8],
+        Some((at, len)) => [0, 1, at as u64, len as u64, 0, 0, 0, 0],
     }
 }
 
-fn is_report(m: &Memory, told: &Seen, wanted: &AdvReport) -> bool {
-    let [0, 1, at, channel, pdu, who, place, len, there, response, response_len, 0] = *told else {
-        return false;
+/// The last UUID of each list, as the structure has it.
+fn last_of_each(data: &[u8]) -> Vec<Uuid> {
+    let last = |(kind, start, count): (u8, usize, usize)| {
+        let (width, body) = (slow::width(kind), &data[start..start + count]);
+        let u = if width == 0 { None } else { body.chunks_exact(width).next_back() }?;
+        let n = u.iter().rev().fold(0, |n: Number, b| n << 8 | Number::from(*b));
+        Some(Uuid((if width == 16 { n } else { slow::short(n as u32) }).to_le_bytes()))
     };
-    let said = match there {
-        0 if response == 0 && response_len == 0 => Some(None),
-        1 => part(m, response, response_len).map(Some),
-        _ => None,
-    };
-    [at, channel, pdu] == [wanted.at_us, u64::from(wanted.channel), u64::from(wanted.pdu_type)]
-        && who == number_of(&wanted.address, wanted.random)
-        && part(m, place, len) == Some(&wanted.data[..])
-        && said == Some(wanted.scan_response.as_deref())
+    slow::structures(data).into_iter().filter_map(last).collect()
 }
 
-/// Whether a body is told exactly where the Rust finds the service listed, and stands in the data or in the scan response.
-fn is_body(m: &Memory, i: usize, uuid: Uuid, wanted: Option<&AdvReport>) -> Result<bool, String> {
-    let (low, high) = halves(&uuid);
-    let body = spot(m, &m.report_body(i, low, high))?;
-    let parts = wanted.map(|r| (&r.data[..], r.scan_response.as_deref().unwrap_or_default()));
-    let (data, response) = parts.unwrap_or_default();
-    Ok(match body {
-        Some([]) => false,
-        None => !ad_lists_service(data, uuid) && !ad_lists_service(response, uuid),
-        Some(b) if ad_lists_service(data, uuid) => data.windows(b.len()).any(|w| w == b),
-        Some(b) => ad_lists_service(response, uuid) && response.windows(b.len()).any(|w| w == b),
-    })
+/// Where the body stands that lists the service: of the data, or else of the scan response.
+fn body(i: usize, r: &AdvReport, uuid: Uuid, met: &mut Met) -> Result<Option<Span>, String> {
+    let number = Number::from_le_bytes(uuid.0);
+    let ((data_at, _), response) = spans(i, r);
+    let answer = r.scan_response.as_deref().unwrap_or_default();
+    let (first, second) = (slow::listed(&r.data, number), slow::listed(answer, number));
+    if [first.is_some(), second.is_some()] != [ad_lists_service(&r.data, uuid), ad_lists_service(answer, uuid)] {
+        return Err("the Rust and the slow search differ".into());
+    }
+    let case = match (first, second) {
+        (Some(_), Some(_)) => Case::InBoth,
+        (Some(_), None) => Case::InData,
+        (None, Some(_)) => Case::InResponse,
+        (None, None) => Case::Nowhere,
+    };
+    met[case as usize] += 1;
+    let found = first.map(|f| (data_at, f)).or(second.zip(response).map(|(f, (at, _))| (at, f)));
+    if let Some((_, (kind, _))) = found {
+        met[match slow::width(kind) {
+            2 => Case::By2,
+            4 => Case::By4,
+            _ => Case::By16,
+        } as usize] += 1;
+    }
+    Ok(found.map(|(at, (_, (start, count)))| (at + start, count)))
+}
+
+fn same<const N: usize>(what: &str, told: [u64; N], wanted: [u64; N]) -> Result<(), String> {
+    if told == wanted { Ok(()) } else { Err(format!("{what} told {told:?} and not {wanted:?}")) }
+}
+
+fn compared(m: &Memory, i: usize, wanted: Option<&AdvReport>, met: &mut Met) -> Result<(), String> {
+    let of_180f = Uuid::from_u16(LISTED);
+    let (low, high) = halves(&of_180f);
+    let Some(r) = wanted else {
+        met[Case::BehindTheLast as usize] += 1;
+        same("report", m.report(i), [0; 12])?;
+        same("report_data", m.report_data(i), [0; 8])?;
+        same("report_response", m.report_response(i), [0; 8])?;
+        return same("report_body", m.report_body(i, low, high), [0; 8]);
+    };
+    met[match r.scan_response.as_deref() {
+        None => Case::NoResponse,
+        Some([]) => Case::EmptyResponse,
+        Some(_) => Case::Response,
+    } as usize] += 1;
+    let (data, response) = spans(i, r);
+    same("report", m.report(i), seen_words(i, r))?;
+    same("report_data", m.report_data(i), span_words(Some(data)))?;
+    same("report_response", m.report_response(i), span_words(response))?;
+    let answer = r.scan_response.as_deref().unwrap_or_default();
+    if !there(m, data, &r.data) || !there(m, response.unwrap_or_default(), answer) {
+        return Err("other bytes stand there".into());
+    }
+    let mut asked = vec![of_180f];
+    asked.extend(last_of_each(&r.data));
+    asked.extend(last_of_each(answer));
+    for uuid in asked {
+        let (low, high) = halves(&uuid);
+        same("report_body", m.report_body(i, low, high), span_words(body(i, r, uuid, met)?))?;
+    }
+    Ok(())
 }
 
 /// What is wrong with the views of report `i`, if anything; `wanted` is the Rust's, none behind the last.
-pub fn fault(m: &Memory, i: usize, uuid: Uuid, wanted: Option<&AdvReport>) -> Option<String> {
-    let told = m.report(i);
-    if !wanted.map_or(told == [0; 12], |r| is_report(m, &told, r)) {
-        return Some(format!("report {i}: told {told:?}"));
-    }
-    let good = || -> Result<bool, String> {
-        Ok(spot(m, &m.report_data(i))? == wanted.map(|r| &r.data[..])
-            && spot(m, &m.report_response(i))? == wanted.and_then(|r| r.scan_response.as_deref())
-            && is_body(m, i, uuid, wanted)?)
-    };
-    match good() {
-        Ok(true) => None,
-        Ok(false) => Some(format!("report {i}: a part of it is another")),
-        Err(what) => Some(format!("report {i}: {what}")),
-    }
+pub fn fault(m: &Memory, i: usize, wanted: Option<&AdvReport>, met: &mut Met) -> Option<String> {
+    compared(m, i, wanted, met).err().map(|why| format!("report {i}: {why}"))
 }

@@ -1,6 +1,6 @@
 //! Where a matched body and a name stand, which the Rust does not tell: computed another way than the port does, with
 //! the structures taken apart first and every UUID widened to its number.
-use super::port::Number;
+pub use super::port::Number;
 
 const BASE: Number = 0x0000_0000_0000_1000_8000_0080_5F9B_34FB;
 
@@ -53,8 +53,5 @@ pub fn listed(data: &[u8], uuid: Number) -> Option<(u8, (usize, usize))> {
 
 /// The place of the first structure that is a name, if one is there.
 pub fn named(data: &[u8]) -> Option<(usize, usize)> {
-    structures(data)
-        .into_iter()
-        .find(|(kind, _, _)| matches!(kind, 8 | 9))
-        .map(|(_, start, count)| (start, count))
+    structures(data).into_iter().find(|(kind, _, _)| matches!(kind, 8 | 9)).map(|(_, start, count)| (start, count))
 }
