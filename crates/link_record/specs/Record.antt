@@ -5,9 +5,9 @@ use Rattle.att_pdu.specs.Numbers.{defaultMtu}
 use Rattle.state.specs.declared.Bearer.{Bearer}
 use Rattle.state.specs.declared.Link.{Link}
 
--- a new link: the default MTU, nothing awaited, not asked to end; nothing stays of what was
-abbrev pub opened : Link → ℕ → Link
-opened l handle = record { handle = handle; mtu = defaultMtu; pending = 0; terminating = false }
+-- a new link: the default MTU (Core Vol 3 Part F 3.2.8), nothing awaited, not asked to end; nothing stays of what was
+abbrev pub newLink : ℕ → Link
+newLink handle = record { handle = handle; mtu = defaultMtu; pending = 0; terminating = false }
 
 -- an MTU is agreed
 abbrev pub agreed : Link → ℕ → Link

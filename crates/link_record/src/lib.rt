@@ -1,12 +1,12 @@
 // The link record, lent and updated where it stands in its bearer. Each thin function has one by value above it, which every other caller uses.
 ghost use mathlib.Core.Path.{_≡_};
-ghost use Rattle.link_record.specs.Record.{opened, agreed, awaiting, answered, terminated, withLink};
+ghost use Rattle.link_record.specs.Record.{newLink, agreed, awaiting, answered, terminated, withLink};
 use state::Bearer;
 use state::Link;
 
 // A new link: the default MTU, nothing awaited, not asked to end.
 fn open(link: &mut Link, handle: u16)
-    ensures { λ _. ⌜ now (link .exit) ≡ opened (now (link .entry)) handle ⌝ }
+    ensures { λ _. ⌜ now (link .exit) ≡ newLink handle ⌝ }
 {
     link.handle = handle;
     link.mtu = att_pdu::DEFAULT_MTU;
@@ -15,7 +15,7 @@ fn open(link: &mut Link, handle: u16)
 }
 
 pub fn opened(b: Bearer, handle: u16) -> Bearer
-    ensures { λ r. ⌜ r ≡ withLink b (opened (b .link) handle) ⌝ }
+    ensures { λ r. ⌜ r ≡ withLink b (newLink handle) ⌝ }
 {
     let mut o = b;
     open(&mut o.link, handle);

@@ -1,12 +1,11 @@
 -- Fit goes to fit over every sequence of calls, so none meets refusal 1.
 use Prim.Native.Nat.{ℕ}
-use mathlib.Core.Path.{_≡_, refl, sym, ap, _∙_}
+use mathlib.Core.Path.{_≡_, sym, ap, _∙_}
 use mathlib.Core.Bool.{Bool, true, false, _&&_, false≢true}
 use mathlib.Core.List.{List, [], _∷_}
 use native.Mathlib.Omega.{arith}
 use lib.ListN.{length}
 use lib.Dec.{eqb, leb}
-use borrow.Author.Tests.{eqb-true}
 use Rattle.bytes.specs.Choice.{pick}
 use Rattle.state_places.specs.Sizes.{mostKeys, dataSize}
 use Rattle.lists.specs.Blocks.{Valued}
@@ -21,7 +20,6 @@ use Rattle.state_rules.specs.Gate.{firstRefusal, gate, gateQuiet}
 use Rattle.state_rules.specs.Refusals.{accepted, unfit, badBatch, counterFull, longData, longFrame, keysFull}
 use Rattle.script_rules.specs.World.{Held}
 use Rattle.script_rules.specs.Timed.{Narrow, narrow, narrowAll}
-use Rattle.script_rules.specs.Outcome.{Outcome, done}
 use Rattle.script_rules.specs.Batch.{gateBatch, batchFits, countersFit}
 use Rattle.thm_fit.specs.Lasting.{Lasting, narrowBatch}
 use Rattle.thm_fit.proofs.FitGoesToFit.{fresh-lasts, push-steps-lasts, on-timer-lasts, on-connected-lasts, on-disconnected-lasts}
@@ -29,12 +27,11 @@ use Rattle.thm_fit.proofs.FragmentLasts.{on-fragment-lasts}
 use Rattle.radio_rules.specs.Hearing as radio
 use Rattle.radio_rules.proofs.Keeps as radio-keeps
 use Rattle.link_rules.specs.Fragment.{gateFragment, heldFits}
-use Rattle.thm_trail.specs.Calls.{Call, batch, timer, connected, disconnected, advertising, scanResponse, fragment, reads, does, left, run, gateOf, done?}
-use Rattle.thm_trail.specs.Trail.{begins, goes, final}
-use Rattle.thm_trail.proofs.Ends.{refusedOf, does-law}
+use Rattle.thm_trail.specs.Calls.{Call, batch, timer, connected, disconnected, advertising, scanResponse, fragment, reads, does, left, fresh, run, gateOf}
+pub use Rattle.thm_trail.proofs.Ends.{refusal-is}
 use Rattle.thm_trail.proofs.Goes.{Off, radio-off, response-off}
 use Rattle.thm_accounting.proofs.Books.{Books}
-use Rattle.thm_accounting.proofs.Accounting.{fresh, books-fresh, books-call}
+use Rattle.thm_accounting.proofs.Accounting.{books-fresh, books-call}
 
 -- ---- calls as their types allow
 
@@ -47,7 +44,7 @@ typed (disconnected at) = true
 typed (advertising v) = true
 typed (scanResponse at a d) = true
 typed (fragment out at start piece) = true
-typed reads = true
+typed (reads r) = true
 
 abbrev pub Typed : List Call → Type 0
 Typed [] = Unit {0}
@@ -74,7 +71,7 @@ lasts-call l q h (scanResponse at a d) t k f =
     let s = radio-keeps.responded-sound (h .state) (h .store) (fit-laws.fit-of (h .state) (f .fit)) (k .sizes .reports) (k .sizes .keys) at a d in
     record { fit = fit-laws.of-fit _ (s .fit); narrow = off-narrow (h .state) _ (response-off (h .state) (h .store) at a d) (f .narrow) }
 lasts-call l q h (fragment out at start piece) t k f = on-fragment-lasts (h .state) f (h .store) out at start piece
-lasts-call l q h reads t k f = f
+lasts-call l q h (reads r) t k f = f
 
 lasts-run : (l : List (Valued StepResult)) (q : List Queued) (h : Held) (cs : List Call) → Typed cs → Books l q h → Lasting (h .state) → Lasting (run h cs .state)
 lasts-run l q h [] t k f = f
@@ -84,26 +81,6 @@ pub lasting : (store : List ℕ) (cs : List Call) → Typed cs → Lasting (run 
 lasting store cs t = lasts-run [] [] (fresh store) cs t (books-fresh store) fresh-lasts
 
 -- ---- the refusal
-
-pub refusal-is : (h : Held) (c : Call) → does h c .refusal ≡ gateOf h c
-refusal-is h c = ap (λ (x : Outcome). x .refusal) (does-law h c) ∙ go (done? h c) refl
-  where
-    told : refusedOf h c .refusal ≡ gateOf h c
-    told = by c
-      where
-        by : (d : Call) → refusedOf h d .refusal ≡ gateOf h d
-        by (batch out at b values) = refl
-        by (timer out at) = refl
-        by (connected out handle at) = refl
-        by (disconnected at) = refl
-        by (advertising v) = refl
-        by (scanResponse at a d) = refl
-        by (fragment out at start piece) = refl
-        by reads = refl
-
-    go : (x : Bool) → done? h c ≡ x → pick x (done (final (begins h c) (goes h c))) (refusedOf h c) .refusal ≡ gateOf h c
-    go true e = sym (eqb-true (gateOf h c) accepted e)
-    go false e = told
 
 -- a fit state is never refused for itself
 first-fit : (f : Bool) → f ≡ true → (x y : Bool) → firstRefusal f x y ≡ unfit → ⊥
@@ -156,7 +133,7 @@ gate-fit h (fragment out at start piece) f =
     let g = gate (h .state) (length (h .store)) (length out) at in
     later g (first-fit (fits (h .state)) f _ _) (eqb g accepted) _
     (fragment-later (eqb (h .state .counters .notified) mostNotified) (heldFits (h .state .bearer) start (length piece)))
-gate-fit h reads f = first-fit (fits (h .state)) f _ _
+gate-fit h (reads r) f = first-fit (fits (h .state)) f _ _
 
 pub never-unfit : (store : List ℕ) (cs : List Call) → Typed cs → (c : Call) → does (run (fresh store) cs) c .refusal ≡ unfit → ⊥
 never-unfit store cs t c e =

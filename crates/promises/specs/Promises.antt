@@ -1,36 +1,51 @@
 -- THE PROMISES (demand 3), of every list of calls from a fresh state with any store contents, refused calls included.
 --
 -- `taken`: every step ever taken in, counted from the calls; `log`: every result ever given, dropped ones too, with its value, read off the
--- tables of the worlds that the calls pass through (thm_trail/specs/Log.antt). `events`: what came in, the requests among the bytes written,
--- and the results, in their order (thm_requests/specs/Events.antt). `OnWire`: thm_wire/specs/Wire.antt. `handedIn`, `notices`: thm_counts/specs/Tally.antt.
+-- tables of the worlds that the calls pass through (thm_trail/specs/Log.antt). `heard`: what came in, from the calls and their refusals alone
+-- (thm_heard/specs/Heard.antt; `silence`: no link yet). `events`: what came in, the requests among the bytes written, and the results, in
+-- their order (thm_heard/specs/Events.antt). `OnWire`: thm_wire/specs/Wire.antt. `handedIn`, `noticed`: thm_counts/specs/Tally.antt.
 use Prim.Native.Nat.{ℕ, zero, suc, _+_, _-_, _<_}
-use mathlib.Core.Path.{_≡_, ap, _∙_}
+use mathlib.Core.Path.{_≡_, sym, ap, _∙_}
 use mathlib.Core.Bool.{true}
 use mathlib.Core.List.{List, [], _∷_}
 use native.Mathlib.Omega.{arith}
 use lib.ListN.{length, drop, getD, length-drop}
-use Rattle.state_places.specs.Sizes.{mostResults}
+use borrow.Author.Tests.{eq-eqb}
+use Rattle.state_places.specs.Sizes.{storeSize, mostResults}
 use Rattle.lists.specs.Queue.{newest}
 use Rattle.lists.specs.Blocks.{Valued}
+use Rattle.time.specs.declared.Micros.{Micros}
 use Rattle.uuid.specs.declared.Uuid.{Uuid}
 use Rattle.state.specs.Fresh.{noQueued}
 use Rattle.state.specs.declared.StepResult.{StepResult}
 use Rattle.state.specs.declared.Step.the-variants.{Read}
 use Rattle.state.specs.declared.StepStatus.the-variants.{Ok}
 use Rattle.state_rules.specs.Fit.{fits, awaits}
-use Rattle.state_rules.specs.Refusals.{unfit}
-use Rattle.thm_trail.specs.Calls.{Call, does, run}
-use Rattle.thm_trail.specs.Log.{keptResults, log, taken}
+use Rattle.state_rules.specs.Refusals.{accepted, unfit}
+use Rattle.state_readers.specs.declared.Handle.the-variants.{Absent}
+use Rattle.state_readers.specs.Numbers.{handleWords}
+use Rattle.thm_trail.specs.Calls.{Reader, timerUs, connectedHandle, Call, timer, connected, disconnected, reads, timeOf, does, left, fresh, run, gateOf}
+use Rattle.thm_trail.specs.Log.{keptResults, noValued, givenBy, log, taken}
+use Rattle.thm_trail.proofs.Ends.{refusal-is}
 use Rattle.thm_accounting.specs.InLine.{inLine}
 use Rattle.thm_accounting.proofs.Numbered.{Numbered}
-use Rattle.thm_accounting.proofs.Accounting.{fresh, books}
-use Rattle.thm_counts.specs.Tally.{handedIn, notices}
+use Rattle.thm_accounting.proofs.Accounting.{books}
+use Rattle.thm_accounting.proofs.Times as times
+use Rattle.thm_counts.specs.Tally.{handedIn, noticed}
 use Rattle.thm_counts.proofs.Counted as tally
 use Rattle.thm_wire.specs.Wire.{OnWire}
 use Rattle.thm_wire.proofs.OnWire.{on-wire}
-use Rattle.thm_requests.specs.Events.{events, Awaited, Answered}
-use Rattle.thm_requests.proofs.Good.{noValued}
-use Rattle.thm_requests.proofs.Sequences.{all}
+use Rattle.thm_requests.specs.Events.{Awaited, Answered}
+use Rattle.thm_heard.specs.Heard.{silence, heard}
+use Rattle.thm_heard.specs.Events.{events}
+use Rattle.thm_heard.proofs.Sequences as calls
+use Rattle.thm_requests.specs.Turn.{InTurn}
+use Rattle.thm_links.specs.Keeps.{Keeps, KeepsButStarts}
+use Rattle.thm_links.proofs.Links as links
+use Rattle.thm_readers.specs.Said.{said, deadlineOf, Heeds, linkAfter, refusals, SaysResults}
+use Rattle.thm_readers.proofs.Results as readers
+use Rattle.thm_readers.proofs.Timers.{heeds}
+use Rattle.thm_readers.proofs.Links.{answers, handle-said}
 use Rattle.promises.specs.Fitness as fitness
 
 number-of : (k : ℕ) (l : List (Valued StepResult)) (i : ℕ) → Numbered k l → i < length l → getD l i noValued .entry .index ≡ k + i
@@ -60,14 +75,14 @@ module _ (store : List ℕ) (cs : List Call) where
   kept-newest = books store cs .table
 
   -- 3. A request is awaited only while the step that sent it runs, on the link that it was sent on.
-  pub awaited : awaits (run (fresh store) cs .state .bearer) ≡ true → Awaited (events (fresh store) cs) (run (fresh store) cs .state)
-  awaited = all store cs .waits
+  pub awaited : awaits (run (fresh store) cs .state .bearer) ≡ true → Awaited (events silence (fresh store) cs) (run (fresh store) cs .state)
+  awaited = calls.awaited store cs
 
   -- 4. A Read that ends Ok has as its value the body of a read response, whose last fragment the same call delivered, on the link on which
   -- its request went out, after it went out.
   pub read-answered : (i : ℕ) → i < length (log (fresh store) cs) → (u : Uuid) → getD (taken (fresh store) cs) i noQueued .step ≡ Read u
-      → getD (log (fresh store) cs) i noValued .entry .status ≡ Ok → Answered (events (fresh store) cs) (getD (log (fresh store) cs) i noValued)
-  read-answered = all store cs .reads
+      → getD (log (fresh store) cs) i noValued .entry .status ≡ Ok → Answered (events silence (fresh store) cs) (getD (log (fresh store) cs) i noValued)
+  read-answered = calls.read-answered store cs
 
   -- 5. No call sends over 65 frames, what it tells is what it wrote, whole L2CAP frames, and no ATT payload exceeds the MTU then in force.
   pub on-the-wire : (c : Call) → OnWire (run (fresh store) cs) c (does (run (fresh store) cs) c)
@@ -84,5 +99,48 @@ module _ (store : List ℕ) (cs : List Call) where
   pub refused-counted : run (fresh store) cs .state .counters .«refused_steps» + length (taken (fresh store) cs) ≡ handedIn (fresh store) cs
   refused-counted = tally.refused-counted store cs
 
-  pub notified-counted : run (fresh store) cs .state .counters .notified ≡ notices (fresh store) cs
-  notified-counted = tally.notified-counted store cs
+  pub notified-counted : run (fresh store) cs .state .counters .notified ≡ noticed (heard silence (fresh store) cs)
+  notified-counted = calls.notified-counted store cs
+
+  -- 8. A lost link keeps both tables, the notifications with their bytes, `notified` and `wait_from`;
+  pub lost-link-keeps : (at : Micros) → let h = run (fresh store) cs in Keeps h (left (does h (disconnected at)))
+  lost-link-keeps at = links.disconnected-keeps (run (fresh store) cs) at
+
+  -- so does a new one, but for what a step that it starts does by its own rule. (thm_links/specs/Keeps.antt)
+  pub new-link-keeps : (out : List ℕ) (handle : ℕ) (at : Micros) → let h = run (fresh store) cs in does h (connected out handle at) .refusal ≡ accepted
+      → KeepsButStarts h at (left (does h (connected out handle at)))
+  new-link-keeps out handle at e =
+      let h = run (fresh store) cs in
+      let c = connected out handle at in
+      links.connected-keeps h out handle at (eq-eqb (gateOf h c) accepted (sym (refusal-is h c) ∙ e))
+
+  -- 9. A result's time is the time of the call that ended its step.
+  pub result-time : (c : Call) (i : ℕ) → let given = givenBy (run (fresh store) cs) c in i < length given → getD given i noValued .entry .at ≡ timeOf c
+  result-time = times.result-time store cs
+
+  -- 10. A reader's first number is the refusal that its call answers with.
+  pub reader-refusal : (r : Reader) → let h = run (fresh store) cs in getD (said h r) 0 0 ≡ does h (reads r) .refusal
+  reader-refusal = readers.reader-refusal (run (fresh store) cs)
+
+  -- Where the store has its size, `timer_us` says the running step's deadline, or that there is none;
+  pub timer-says : fitness.Typed cs → length store ≡ storeSize → let h = run (fresh store) cs in said h timerUs ≡ deadlineOf (h .state .running)
+  timer-says t z = readers.timer-said (run (fresh store) cs) (answers store cs (fit-stays t) z)
+
+  -- an accepted timer call changes nothing before the time that `timer_us` says, and from then on ends the running step;
+  pub timer-heeds : (out : List ℕ) (at : Micros) → let h = run (fresh store) cs in does h (timer out at) .refusal ≡ accepted → Heeds h out at
+  timer-heeds out at e =
+      let h = run (fresh store) cs in
+      heeds (log (fresh store) cs) (taken (fresh store) cs) h out at (books store cs) (eq-eqb (gateOf h (timer out at)) accepted (sym (refusal-is h (timer out at)) ∙ e))
+
+  -- `connected_handle` says the handle of the last accepted connected call, while no accepted disconnected call came since;
+  pub handle-says : fitness.Typed cs → length store ≡ storeSize
+      → said (run (fresh store) cs) connectedHandle ≡ handleWords (linkAfter Absent cs (refusals (fresh store) cs))
+  handle-says t z = handle-said store cs (answers store cs (fit-stays t) z)
+
+  -- `result` says entry i of the log while it is among the newest 64, with its value in the store, and else that there is none.
+  pub result-says : fitness.Typed cs → length store ≡ storeSize → SaysResults (run (fresh store) cs) (log (fresh store) cs)
+  result-says t z = readers.says-results (run (fresh store) cs) (log (fresh store) cs) (answers store cs (fit-stays t) z) kept-newest (books store cs .order)
+
+  -- 11. A request has the number of the step that sent it, which is its place in the order taken in: as many results were given before.
+  pub requests-in-turn : InTurn (taken (fresh store) cs) 0 (events silence (fresh store) cs)
+  requests-in-turn = calls.requests-in-turn store cs

@@ -22,10 +22,12 @@ use Rattle.gatt_characteristics.specs.Characteristic.{upFrom}
 use Rattle.state.specs.Central.{Central}
 use Rattle.state.specs.Fresh.{freshCentral}
 use Rattle.state.specs.declared.Step.{Step}
-use Rattle.state.specs.declared.Step.the-variants.{ExchangeMtu, DiscoverServices}
+use Rattle.state.specs.declared.Step.the-variants.{ExchangeMtu, DiscoverServices, Disconnect}
 use Rattle.state_rules.specs.Fit.{countsFit, fits}
 use Rattle.state_rules.specs.Gate.{firstRefusal}
 use Rattle.state_rules.specs.Steps.{stepFits}
+use Rattle.script_rules.specs.declared.Placed.{Placed}
+use Rattle.script_rules.specs.declared.Batch.{Batch}
 use Rattle.script_rules.specs.Send.{send, request}
 use Rattle.script_rules.specs.Waiting.{pushOne, pushAll, takeStep}
 use Rattle.script_rules.specs.Discovery.{discoverServices}
@@ -99,9 +101,16 @@ output = replicate outputSize 0
 unfoldable pub onLink : Central
 onLink = onConnected freshCentral store output 0 noTime .state
 
--- a batch of one step
+-- a step with no value
+abbrev pub placed : Step → Placed
+placed step = record { step = step; place = 0; len = 0 }
+
+-- a batch of one step: it has 64 places, and what stands at the others does not count
+abbrev pub only : Step → Batch
+only step = record { steps = placed step ∷ replicate 63 (placed Disconnect); count = 1 }
+
 unfoldable pub given : Step → Outcome
-given step = pushSteps onLink store output noTime (record { steps = record { step = step; place = 0; len = 0 } ∷ []; count = 1 }) []
+given step = pushSteps onLink store output noTime (only step) []
 
 -- one fragment that is a whole frame
 unfoldable pub come : ℕ → List ℕ → Outcome

@@ -1,23 +1,26 @@
 -- What the events ask of what they call, and what each of their returns asks.
 use Prim.Native.Nat.{ℕ}
-use mathlib.Core.Path.{_≡_, sym, ap, subst, _∙_}
+use mathlib.Core.Path.{_≡_, refl, sym, ap, subst, _∙_}
 use mathlib.Core.Bool.{Bool, true, false, _||_}
 use mathlib.Core.List.{List}
 use Rattle.bytes.specs.Choice.{pick}
 use Rattle.time.specs.declared.Micros.{Micros}
 use Rattle.state.specs.Central.{withBearer}
 use Rattle.state.specs.declared.Bearer.{Bearer}
+use Rattle.state.specs.declared.Step.{Step}
 use Rattle.state.specs.declared.StepStatus.{StepStatus}
 use Rattle.state.specs.declared.StepStatus.the-variants.{Ok}
 use Rattle.script_rules.specs.World.{Held, World, onHeld, onState}
 use Rattle.script_rules.specs.Start.{ends}
 use Rattle.script_rules.specs.Sound.{Sound, Whole}
 use Rattle.script_rules.proofs.KeepStarts.{stays-ends}
-use Rattle.script_rules.specs.Script.{advance, advanceUnlinked}
+use Rattle.script_rules.specs.Script.{advance}
+use Rattle.script_rules.specs.Unlinked.{advanceUnlinked}
+use Rattle.script_rules.proofs.UnlinkedLaws.{present-finish, advance-unlinked}
 use Rattle.script_rules.proofs.CallBeginLaws.{sound-stays, whole-stays}
-use Rattle.script_rules.specs.Comings.{timedOut, due, expire, linked, isConnect, greeted, connect, unlinked, goesOn, cutStatus, cutOff, lose}
+use Rattle.script_rules.specs.Comings.{timedOut, due, expire, linked, isConnect, greeted, connect, unlinked, goesOn, cutStatus, cutOff, silent, lose}
 use Rattle.script_rules.proofs.KeepEvents.{stays-met, stays-lost}
-use Rattle.link_record.specs.Record.{opened, withLink}
+use Rattle.link_record.specs.Record.{newLink, withLink}
 use Rattle.state_core.specs.declared.Core.{Core}
 use Rattle.state_core.specs.declared.Turn.{Turn}
 use Rattle.state_core.specs.Reading.{central, held, world}
@@ -87,7 +90,7 @@ module _ (c : Core) (w st : List ℕ) (at : Micros) (b : Bool) where
 abbrev come : Core → Bearer → Core
 come c b = reading.withBearer c (record { held = 0; link = b .link; present = true })
 
-module _ (t : Turn) (w st out : List ℕ) (handle : ℕ) (at : Micros) (b : Bearer) (eb : b ≡ withLink (t .core .bearer) (opened (t .core .bearer .link) handle))
+module _ (t : Turn) (w st out : List ℕ) (handle : ℕ) (at : Micros) (b : Bearer) (eb : b ≡ withLink (t .core .bearer) (newLink handle))
     (n : Core) (w₁ st₁ : List ℕ) (en : held n w₁ st₁ ≡ greeted (held (come (t .core) b) w st) at) where
   met : world (turned t n) w₁ st₁ out
       ≡ onHeld (world t w st out) (greeted (onState (held (t .core) w st) (withBearer (central (t .core) w) (linked handle))) at)
@@ -110,6 +113,15 @@ module _ (t : Turn) (w st out : List ℕ) (handle : ℕ) (at : Micros) (b : Bear
 abbrev gone : Core → Core
 gone c = reading.withBearer c (unlinked (c .bearer))
 
+-- a step that is cut off brings no link
+absent : (h : Held) (at : Micros) (s : Step) → h .state .bearer .present ≡ false → cutOff h at s .state .bearer .present ≡ false
+unfolding cutOff
+absent h at s e = go (goesOn s)
+  where
+    go : (b : Bool) → pick b h (ends h at (cutStatus s)) .state .bearer .present ≡ false
+    go true = e
+    go false = present-finish h at (cutStatus s) _ 0 ∙ e
+
 module _ (c : Core) (w st : List ℕ) (at : Micros) (n : Core) (w₁ st₁ : List ℕ) (en : held n w₁ st₁ ≡ cutOff (held (gone c) w st) at (c .running .step)) where
   pub lose-may : Whole (held c w st) → Whole (held n w₁ st₁)
   lose-may k =
@@ -118,4 +130,6 @@ module _ (c : Core) (w st : List ℕ) (at : Micros) (n : Core) (w₁ st₁ : Lis
 
   pub lose-done : (r : Core) (w₂ st₂ : List ℕ) → held r w₂ st₂ ≡ advanceUnlinked (held n w₁ st₁) at → held r w₂ st₂ ≡ lose (held c w st) at
   unfolding lose
-  lose-done r w₂ st₂ er = er ∙ ap (λ (h : Held). advanceUnlinked h at) en
+  lose-done r w₂ st₂ er =
+      let g = cutOff (held (gone c) w st) at (c .running .step) in
+      er ∙ ap (λ (h : Held). advanceUnlinked h at) en ∙ sym (ap (λ (v : World). v .held) (advance-unlinked (silent g) at (absent (held (gone c) w st) at (c .running .step) refl)))

@@ -20,7 +20,8 @@ use Rattle.script_rules.specs.Sound.{Sound, Whole}
 use Rattle.script_rules.proofs.KeepTurns.{fit-of}
 use Rattle.script_rules.proofs.KeepWaiting.{take-keeps}
 use Rattle.script_rules.proofs.KeepStarts.{stays-unlinked, goes-start}
-use Rattle.script_rules.specs.Script.{canGo, stepOnce, advances, advance, stepUnlinked, advancesUnlinked, advanceUnlinked}
+use Rattle.script_rules.specs.Script.{canGo, stepOnce, advances, advance}
+use Rattle.script_rules.specs.Unlinked.{stepUnlinked, advancesUnlinked, advanceUnlinked}
 use Rattle.script_rules.proofs.LoopLaws as loops
 
 -- ---- whether it goes on

@@ -18,3 +18,4 @@ pub mod FitLaws
 pub mod PushLaws
 pub mod CallLaws
 pub mod KeepEvents
+pub mod UnlinkedLaws

@@ -2,11 +2,11 @@
 use Prim.Native.Nat.{ℕ}
 use mathlib.Core.Bool.{true, false}
 use Rattle.state.specs.declared.Bearer.{Bearer}
-use Rattle.state_rules.specs.Steps.{defaultMtu}
+use Rattle.link_record.specs.Record.{newLink}
 
--- a new link: the default MTU (Core Vol 3 Part F 3.2.8), nothing held, awaited or asked to end
+-- a new link, nothing held of a frame
 abbrev pub linked : ℕ → Bearer
-linked handle = record { held = 0; link = record { handle = handle; mtu = defaultMtu; pending = 0; terminating = false }; present = true }
+linked handle = record { held = 0; link = newLink handle; present = true }
 
 -- no link: what was held and the record stay, and count for nothing
 abbrev pub unlinked : Bearer → Bearer

@@ -1,6 +1,7 @@
 -- What a timer, a link that comes and a link that goes do (01, 'Rules of the link': what each ends, what each keeps).
 use Prim.Native.Nat.{ℕ}
 use mathlib.Core.Bool.{Bool, _||_}
+use mathlib.Core.List.{[]}
 use Rattle.bytes.specs.Choice.{pick}
 use Rattle.time.specs.declared.Micros.{Micros}
 use Rattle.state.specs.Central.{withBearer}
@@ -13,7 +14,8 @@ use Rattle.state_kinds.specs.Kinds.{isScan, isWait, isDisconnect}
 pub use Rattle.state_kinds.specs.Kinds.{isConnect}
 pub use Rattle.script_rules.specs.Bearers.{linked, unlinked}
 pub use Rattle.script_rules.specs.Timeouts.{timedOut, due}
-use Rattle.script_rules.specs.Script.{advance, advanceUnlinked}
+use Rattle.script_rules.specs.Outcome.{begins}
+use Rattle.script_rules.specs.Script.{advance}
 
 -- ---- the timer
 
@@ -43,7 +45,11 @@ cutStatus s = pick (isDisconnect s) Ok Disconnected
 unfoldable pub cutOff : Held → Micros → Step → Held
 cutOff h at step = pick (goesOn step) h (ends h at (cutStatus step))
 
+-- no output is lent: with no link nothing goes out (`advance-unlinked`, proofs/UnlinkedLaws)
+abbrev pub silent : Held → World
+silent h = begins (h .state) (h .store) []
+
 unfoldable pub lose : Held → Micros → Held
 lose h at =
     let g = onState h (withBearer (h .state) (unlinked (h .state .bearer))) in
-    advanceUnlinked (cutOff g at (g .state .running .step)) at
+    advance (silent (cutOff g at (g .state .running .step))) at .held

@@ -9,7 +9,7 @@ use Rattle.state.specs.Central.{Central}
 use Rattle.state_rules.specs.Gate.{gate, gateQuiet}
 use Rattle.state_rules.specs.Refusals.{accepted}
 use Rattle.script_rules.specs.Outcome.{Outcome, Quiet, begins, done, refused, quietly, quietlyRefused}
-pub use Rattle.script_rules.specs.Comings.{linked, unlinked, timedOut, due, isConnect, greeted, goesOn, cutStatus}
+pub use Rattle.script_rules.specs.Comings.{linked, unlinked, timedOut, due, isConnect, greeted, goesOn, cutStatus, silent}
 unfoldable pub use Rattle.script_rules.specs.Comings.{expire, connect, cutOff, lose}
 
 unfoldable pub onTimer : Central → List ℕ → List ℕ → Micros → Outcome

@@ -15,7 +15,7 @@ use Rattle.state.specs.declared.Bearer.{Bearer}
 use Rattle.state.specs.declared.StepResult.{StepResult}
 use Rattle.state.specs.declared.StepStatus.{StepStatus}
 use Rattle.state.specs.declared.Results.{Results}
-pub use Rattle.link_record.specs.Record.{answered}
+pub use Rattle.link_record.specs.Record.{answered, withLink}
 use Rattle.script_rules.specs.World.{Held}
 
 -- the results' part of the store
@@ -31,9 +31,6 @@ pushedResult rs r =
 -- no step runs
 abbrev pub idle : Running → Running
 idle r = record { deadline = r .deadline; step = r .step; index = r .index; cursor = r .cursor; len = r .len; phase = r .phase; active = false; dated = r .dated }
-
-abbrev pub withLink : Bearer → Link → Bearer
-withLink b l = record { held = b .held; link = l; present = b .present }
 
 -- the running step's result: the n bytes of the store from `from` on are its value
 unfoldable pub ended : Held → Micros → StepStatus → ℕ → ℕ → Held

@@ -12,6 +12,7 @@ pub mod Nearly
 pub mod Timed
 pub mod Sound
 pub mod Script
+pub mod Unlinked
 pub mod Outcome
 pub mod Batches
 pub mod Batch

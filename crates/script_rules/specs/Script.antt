@@ -5,9 +5,9 @@ use lib.Dec.{ltb}
 use Rattle.bytes.specs.Choice.{pick}
 use Rattle.time.specs.declared.Micros.{Micros}
 use Rattle.state.specs.Central.{Central}
-use Rattle.script_rules.specs.World.{Held, World, onHeld}
+use Rattle.script_rules.specs.World.{World, onHeld}
 use Rattle.script_rules.specs.Waiting.{takeStep}
-use Rattle.script_rules.specs.Start.{startUnlinked, start}
+use Rattle.script_rules.specs.Start.{start}
 
 abbrev pub canGo : Central → Bool
 canGo c = not (c .running .active) && ltb 0 (c .queue .count)
@@ -24,15 +24,3 @@ advances (suc n) w at = pick (canGo (w .held .state)) (advances n (stepOnce w at
 -- as many as wait
 unfoldable pub advance : World → Micros → World
 advance w at = advances (w .held .state .queue .count) w at
-
--- ---- the same with no link, where nothing can go out
-
-abbrev pub stepUnlinked : Held → Micros → Held
-stepUnlinked h at = let g = takeStep h in startUnlinked g at (g .state .running .step)
-
-unfoldable pub advancesUnlinked : ℕ → Held → Micros → Held
-advancesUnlinked zero h at = h
-advancesUnlinked (suc n) h at = pick (canGo (h .state)) (advancesUnlinked n (stepUnlinked h at) at) h
-
-unfoldable pub advanceUnlinked : Held → Micros → Held
-advanceUnlinked h at = advancesUnlinked (h .state .queue .count) h at

@@ -15,7 +15,8 @@ use Rattle.script_rules.specs.Start.{startUnlinked, start}
 use Rattle.script_rules.specs.Nearly.{Nearly}
 use Rattle.script_rules.specs.Sound.{Sound, Whole}
 use Rattle.script_rules.proofs.KeepWaiting.{take-keeps, take-fit}
-use Rattle.script_rules.specs.Script.{canGo, stepOnce, stepUnlinked}
+use Rattle.script_rules.specs.Script.{canGo, stepOnce}
+use Rattle.script_rules.specs.Unlinked.{stepUnlinked}
 use Rattle.script_rules.proofs.AdvanceLaws.{goes-on, taken}
 
 pub may-take : (c : Central) → Nearly c → canGo c ≡ true

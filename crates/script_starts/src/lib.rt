@@ -11,7 +11,7 @@ ghost use Rattle.script_rules.specs.Ready.{Ready};
 ghost use Rattle.script_rules.specs.Send.{Room};
 ghost use Rattle.script_rules.specs.Discovery.{discoverServices};
 ghost use Rattle.script_rules.specs.Wait.{Looks, checkWait};
-ghost use Rattle.script_rules.specs.Start.{waitsFor, unlinkedStep, startUnlinked, forgotten, discoverIn, disconnect, carried, startLinked, start};
+ghost use Rattle.script_rules.specs.Start.{waitsFor, startUnlinked, forgotten, discoverIn, disconnect, carried, startLinked, start};
 ghost use Rattle.state_core.specs.Reading.{central, held, world};
 use gatt_services::Which;
 use script_rules::Alone;
@@ -31,42 +31,6 @@ const REMOTE_USER_TERMINATED: u8 = 0x13;
 
 // ---- with no link
 
-// What a step does without a link.
-fn alone_with(step: Step) -> Alone
-    ensures { λ r. ⌜ r ≡ unlinkedStep step ⌝ }
-{
-    match step {
-        Step::Scan { ms } => Alone::Runs(ms),
-        Step::Connect {
-            target: _,
-            interval: _,
-            latency: _,
-            timeout: _,
-            within_ms,
-        } => Alone::Runs(within_ms),
-        Step::ExchangeMtu { mtu: _ } => Alone::NeedsLink,
-        Step::DiscoverServices => Alone::NeedsLink,
-        Step::DiscoverCharacteristics { service: _ } => Alone::NeedsLink,
-        Step::Subscribe {
-            characteristic: _,
-            indicate: _,
-        } => Alone::NeedsLink,
-        Step::Write {
-            characteristic: _,
-            with_response: _,
-        } => Alone::NeedsLink,
-        Step::Read { characteristic: _ } => Alone::NeedsLink,
-        Step::WaitNotification {
-            characteristic: _,
-            within_ms: _,
-        } => Alone::NeedsLink,
-        Step::Wait { ms } => Alone::Runs(ms),
-        Step::Disconnect => Alone::NeedsLink,
-        Step::Capture { enabled: _ } => Alone::Done,
-        Step::CaptureSecrets { secrets: _ } => Alone::Done,
-    }
-}
-
 // The running step begins, and there is no link.
 pub fn start_unlinked(c: Core, tables: &mut [u64; 1056], store: &mut [u8], at: Micros) -> Core
     requires { ⌜ (length (now store) ≡ storeSize) × (c .counts .results ≤ mostResults) ⌝ }
@@ -74,7 +38,7 @@ pub fn start_unlinked(c: Core, tables: &mut [u64; 1056], store: &mut [u8], at: M
 {
     let running = c.running;
     let step = running.step;
-    match alone_with(step) {
+    match script_alone::alone_with(step) {
         Alone::Runs(ms) => script_turns::wait_for(c, at, ms),
         Alone::Done => script_turns::end(c, tables, store, at, StepStatus::Ok),
         Alone::NeedsLink => script_turns::end(c, tables, store, at, StepStatus::NotConnected),

@@ -36,7 +36,7 @@ use Rattle.script_rules.specs.Outcome.{Outcome, done}
 use Rattle.script_rules.specs.Batch.{placedFits}
 use Rattle.script_rules.proofs.CallLaws.{passed-batch}
 use Rattle.link_rules.specs.Fragment as link
-use Rattle.thm_trail.specs.Calls.{Call, batch, timer, connected, disconnected, advertising, scanResponse, fragment, reads, does, left, run, gateOf, done?}
+use Rattle.thm_trail.specs.Calls.{Call, batch, timer, connected, disconnected, advertising, scanResponse, fragment, reads, does, left, fresh, run, gateOf, done?}
 use Rattle.thm_trail.specs.Trail.{begins, goes, final}
 use Rattle.thm_trail.specs.Log.{givenIn, givenBy, log, queuedAll, roomFor, takesIn, taken}
 use Rattle.thm_trail.proofs.Ends.{refusedOf, does-law}
@@ -48,7 +48,7 @@ use Rattle.thm_accounting.proofs.Books.{Books, after-hops, bytes-past}
 -- ---- a batch goes in
 
 -- a step that a batch accepts has a value that fits its block
-short-value : (size : ℕ) (p : Placed) → placedFits size p ≡ true → valueLen p ≤ valueSize
+pub short-value : (size : ℕ) (p : Placed) → placedFits size p ≡ true → valueLen p ≤ valueSize
 unfolding stepFits
 short-value size p e = go (carries (p .step)) refl
   where
@@ -224,7 +224,7 @@ books-begins l q h (disconnected at) e k = books-same l q h k
 books-begins l q h (advertising v) e k = books-same l q h k
 books-begins l q h (scanResponse at a d) e k = books-same l q h k
 books-begins l q h (fragment out at start piece) e k = books-same l q h k
-books-begins l q h reads e k = books-same l q h k
+books-begins l q h (reads r) e k = books-same l q h k
 
 -- ---- calls
 
@@ -254,7 +254,7 @@ books-refused l q h (fragment out at start piece) k = go (eqb (gateOf h (fragmen
     go : (b : Bool) → Books l q (record { state = pick b (link.withHeld (h .state) 0) (h .state); store = h .store })
     go true = books-held l q h 0 k
     go false = k
-books-refused l q h reads k = k
+books-refused l q h (reads r) k = k
 
 pub books-call : (l : List (Valued StepResult)) (q : List Queued) (h : Held) (c : Call) → Books l q h → Books (l ++ givenBy h c) (q ++ takesIn h c) (left (does h c))
 books-call l q h c b = subst (λ (x : Outcome). Books (l ++ givenBy h c) (q ++ takesIn h c) (left x)) (sym (does-law h c)) (go (done? h c) refl)
@@ -276,9 +276,6 @@ books-run l q h (c ∷ cs) b =
     (books-run (l ++ givenBy h c) (q ++ takesIn h c) g cs (books-call l q h c b)))
 
 -- ---- from a fresh state, with any store
-
-abbrev pub fresh : List ℕ → Held
-fresh store = record { state = freshCentral; store = store }
 
 pub books-fresh : (store : List ℕ) → Books [] [] (fresh store)
 unfolding freshCentral valued newest

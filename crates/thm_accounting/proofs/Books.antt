@@ -16,6 +16,8 @@ use Rattle.lists.specs.Blocks.{Valued, bytes}
 use Rattle.lists.proofs.BlockLaws.{drop-past}
 use Rattle.time.specs.declared.Micros.{Micros}
 use Rattle.state.specs.Fresh.{noQueued}
+use Rattle.state.specs.Central.{withBearer}
+use Rattle.state.specs.declared.Bearer.{Bearer}
 use Rattle.state.specs.declared.Queue.{Queue}
 use Rattle.state.specs.declared.Keys.{Keys}
 use Rattle.state.specs.declared.Reports.{Reports}
@@ -23,7 +25,7 @@ use Rattle.adv_reports.specs.Whole as reports
 use Rattle.state.specs.declared.Queued.{Queued}
 use Rattle.state.specs.declared.Running.{Running}
 use Rattle.state.specs.declared.StepResult.{StepResult}
-use Rattle.script_rules.specs.World.{Held, World, onHeld}
+use Rattle.script_rules.specs.World.{Held, World, onHeld, onState}
 use Rattle.script_rules.specs.Waiting.{waiting, queueing, takeStep}
 use Rattle.script_rules.specs.Start.{start}
 use Rattle.script_rules.specs.Sound.{Sound}
@@ -39,8 +41,8 @@ use Rattle.thm_trail.specs.Log.{keptResults, upTo, newer, gave, givenIn}
 use Rattle.thm_trail.proofs.Hops.{Sizes, Still, Hop, ended, began, meets, parts, still, acted, Hops, none, more}
 use Rattle.thm_accounting.specs.InLine.{inLine}
 use Rattle.thm_accounting.proofs.Numbered.{Numbered, numbered-snoc, gave-none, gave-one}
-use Rattle.thm_accounting.proofs.Gives.{Whole, Same, Ends, Gives, nothing, one, apart-state, kept-values}
-use Rattle.thm_accounting.proofs.Starts.{gives-ends, quiet, gives-start}
+use Rattle.thm_accounting.proofs.Gives.{Whole, Same, Goes-on, Ends, Gives, nothing, one, kept-values}
+use Rattle.thm_accounting.proofs.Starts.{gives-ends, gives-start}
 use Rattle.thm_accounting.proofs.Channels.{gives-channel}
 
 -- ---- the invariant: l was given, q was taken in
@@ -61,6 +63,24 @@ pub record Books (l : List (Valued StepResult)) (q : List Queued) (h : Held) : T
 
 pub whole : (w : World) → Sound 65 w → Sizes (w .held .state) → Whole (w .held)
 whole w s z = record { store = s .ready .store; cells = z .results; few = s .nearly .results .few; fit = s .nearly .results .fit }
+
+-- ---- what was given
+
+-- nothing
+pub none-gave : (l : List (Valued StepResult)) (q : List Queued) (h g : Held) → Books l q h → keptResults g ≡ keptResults h → gave h g ≡ []
+none-gave l q h g b e =
+    ap (λ (t : List (Valued StepResult)). newer (upTo t) (keptResults g)) (b .table)
+    ∙ ap (λ (t : List (Valued StepResult)). newer (upTo (newest mostResults l)) t) (e ∙ b .table)
+    ∙ gave-none mostResults l (omega arith) (b .order)
+
+-- the running step's result
+pub gave-pushed : (l : List (Valued StepResult)) (q : List Queued) (h g : Held) (x : Valued StepResult) → Books l q h → x .entry .index ≡ length l
+    → keptResults g ≡ pushed mostResults (keptResults h) x → gave h g ≡ x ∷ []
+gave-pushed l q h g x b i e =
+    ap (λ (t : List (Valued StepResult)). newer (upTo t) (keptResults g)) (b .table)
+    ∙ ap (λ (t : List (Valued StepResult)). newer (upTo (newest mostResults l)) t)
+    (e ∙ ap (λ (t : List (Valued StepResult)). pushed mostResults t x) (b .table) ∙ pushed-newest mostResults l x)
+    ∙ gave-one mostResults l x (omega arith) (b .order) i
 
 -- ---- nothing is given
 
@@ -85,11 +105,7 @@ books-rest l q h g b r = subst (λ (t : List (Valued StepResult)). Books t q g) 
     kept = r .results ∙ b .table
 
     none-given : l ++ gave h g ≡ l
-    none-given =
-        ap (λ (t : List (Valued StepResult)). l ++ newer (upTo t) (keptResults g)) (b .table)
-        ∙ ap (λ (t : List (Valued StepResult)). l ++ newer (upTo (newest mostResults l)) t) kept
-        ∙ ap (λ (t : List (Valued StepResult)). l ++ t) (gave-none mostResults l (omega arith) (b .order))
-        ∙ append-nil l
+    none-given = ap (λ (t : List (Valued StepResult)). l ++ t) (none-gave l q h g b (r .results)) ∙ append-nil l
 
     here : Books l q g
     here =
@@ -121,7 +137,7 @@ one-less x t q n e =
     let k : length (x ∷ t) ≡ length q - n = ap length e ∙ length-drop n q in
     (ap (λ (y : List Queued). drop 1 y) e ∙ drop-drop 1 n q, omega (arith, k))
 
-books-one : (l : List (Valued StepResult)) (q : List Queued) (h g : Held) → Books l q h → Ends h g → Books (l ++ gave h g) q g
+books-one : {at : Micros} (l : List (Valued StepResult)) (q : List Queued) (h g : Held) → Books l q h → Ends at h g → Books (l ++ gave h g) q g
 books-one l q h g b e = subst (λ (t : List (Valued StepResult)). Books (l ++ t) q g) (sym given) here
   where
     x : Valued StepResult
@@ -134,10 +150,7 @@ books-one l q h g b e = subst (λ (t : List (Valued StepResult)). Books (l ++ t)
     kept = e .results ∙ ap (λ (t : List (Valued StepResult)). pushed mostResults t x) (b .table) ∙ pushed-newest mostResults l x
 
     given : gave h g ≡ x ∷ []
-    given =
-        ap (λ (t : List (Valued StepResult)). newer (upTo t) (keptResults g)) (b .table)
-        ∙ ap (λ (t : List (Valued StepResult)). newer (upTo (newest mostResults l)) t) kept
-        ∙ gave-one mostResults l x (omega arith) (b .order) index
+    given = gave-pushed l q h g x b index (e .results)
 
     more-given : length (l ++ (x ∷ [])) ≡ length l + 1
     more-given = length-append l (x ∷ [])
@@ -169,8 +182,8 @@ books-one l q h g b e = subst (λ (t : List (Valued StepResult)). Books (l ++ t)
           sizes = sizes-same h g (e .same) (b .sizes);
         }
 
-pub books-gives : (l : List (Valued StepResult)) (q : List Queued) (h g : Held) → Books l q h → Gives h g → Books (l ++ gave h g) q g
-books-gives l q h g b (nothing r) =
+books-goes-on : (l : List (Valued StepResult)) (q : List Queued) (h g : Held) → Books l q h → Goes-on h g → Books (l ++ gave h g) q g
+books-goes-on l q h g b r =
     books-rest l q h g b
     (record {
       results = r .results;
@@ -182,6 +195,9 @@ books-gives l q h g b (nothing r) =
       «next» = r .same .«next»;
       sizes = sizes-same h g (r .same) (b .sizes);
     })
+
+pub books-gives : {at : Micros} (l : List (Valued StepResult)) (q : List Queued) (h g : Held) → Books l q h → Gives at h g → Books (l ++ gave h g) q g
+books-gives l q h g b (nothing r) = books-goes-on l q h g b r
 books-gives l q h g b (one e) = books-one l q h g b e
 
 -- ---- the first waiting step begins
@@ -272,6 +288,11 @@ rests-still h g w z s =
       sizes = s .sizes z;
     }
 
+-- another link
+rests-bearer : (h : Held) (x : Bearer) → Sizes (h .state) → Rests h (onState h (withBearer (h .state) x))
+rests-bearer h x z =
+    record { results = refl; queue = refl; active = refl; step = refl; len = refl; index = refl; «next» = refl; sizes = record { queue = z .queue; results = z .results; reports = z .reports; keys = z .keys } }
+
 pub sound-hop : {w : World} {p : Pass} → Hop w p → Sound 65 w → Sound 65 (p .to)
 sound-hop (ended w at st n) s = sound-stays 65 w _ s (stays-ends (w .held) at st (s .nearly))
 sound-hop (began w at t g) s = stepped w at t s g .sound
@@ -290,8 +311,8 @@ pub books-hop : (l : List (Valued StepResult)) (q : List Queued) {w : World} {p 
     → Books (l ++ gave (w .held) (p .to .held)) q (p .to .held)
 books-hop l q (ended w at st n) s b = books-gives l q (w .held) _ b (gives-ends (w .held) at st (whole w s (b .sizes)))
 books-hop l q (began w at t g) s b = books-began l q w at s g b
-books-hop l q (meets w handle) s b = books-gives l q (w .held) (met w handle .held) b (quiet (whole w s (b .sizes)) (apart-state refl refl refl refl refl refl refl refl refl))
-books-hop l q (parts w) s b = books-gives l q (w .held) (parted w .held) b (quiet (whole w s (b .sizes)) (apart-state refl refl refl refl refl refl refl refl refl))
+books-hop l q (meets w handle) s b = books-rest l q (w .held) (met w handle .held) b (rests-bearer (w .held) (linked handle) (b .sizes))
+books-hop l q (parts w) s b = books-rest l q (w .held) (parted w .held) b (rests-bearer (w .held) (unlinked (w .held .state .bearer)) (b .sizes))
 books-hop l q (still w g t) s b = books-rest l q (w .held) g b (rests-still (w .held) g (whole w s (b .sizes)) (b .sizes) t)
 books-hop l q (acted w at channel n o t) s b = books-gives l q (w .held) (onChannel w at channel n .held) b (gives-channel w at channel n (o .short) (whole w s (b .sizes)))
 

@@ -1,4 +1,4 @@
--- What a hop gives: no result, or the running step's.
+-- What a hop gives: no result, or the running step's, with the time of the hop.
 use Prim.Native.Nat.{ℕ, _+_, _-_, _≤_, _<_}
 use mathlib.Core.Path.{_≡_, refl, sym, ap, _∙_, subst}
 use mathlib.Core.Bool.{Bool, true, false}
@@ -39,7 +39,7 @@ whole-same w s e =
       fit = ap (λ (r : Results). resultsFit (kept r)) e ∙ w .fit;
     }
 
--- the script stands where it stood
+-- the script stands where it stood, and so does the link
 pub record Same (h g : Held) : Type 0 where
   pub «next» : g .state .counters .«next_index» ≡ h .state .counters .«next_index»
   pub queue : g .state .queue ≡ h .state .queue
@@ -49,6 +49,8 @@ pub record Same (h g : Held) : Type 0 where
   pub reports : g .state .reports ≡ h .state .reports
   pub keys : g .state .keys ≡ h .state .keys
   pub cells : length (g .state .results .kept) ≡ length (h .state .results .kept)
+  pub present : g .state .bearer .present ≡ h .state .bearer .present
+  pub handle : g .state .bearer .link .handle ≡ h .state .bearer .link .handle
 
 -- nothing is given, and the running step goes on
 pub record Goes-on (h g : Held) : Type 0 where
@@ -56,23 +58,24 @@ pub record Goes-on (h g : Held) : Type 0 where
   pub results : keptResults g ≡ keptResults h
   pub active : g .state .running .active ≡ h .state .running .active
 
--- the running step ends, and its result is given
-pub record Ends (h g : Held) : Type 0 where
+-- the running step ends now, and its result is given, with this time
+pub record Ends (at : Micros) (h g : Held) : Type 0 where
   pub same : Same h g
   pub new : Valued StepResult
   pub results : keptResults g ≡ pushed mostResults (keptResults h) new
   pub index : new .entry .index ≡ h .state .running .index
+  pub time : new .entry .at ≡ at
   pub was : h .state .running .active ≡ true
   pub is : g .state .running .active ≡ false
 
-pub data Gives (h g : Held) : Type 0 where
-  nothing : Goes-on h g → Gives h g
-  one : Ends h g → Gives h g
+pub data Gives (at : Micros) (h g : Held) : Type 0 where
+  nothing : Goes-on h g → Gives at h g
+  one : Ends at h g → Gives at h g
 
 pub same-refl : (h : Held) → Same h h
-same-refl h = record { «next» = refl; queue = refl; index = refl; step = refl; len = refl; reports = refl; keys = refl; cells = refl }
+same-refl h = record { «next» = refl; queue = refl; index = refl; step = refl; len = refl; reports = refl; keys = refl; cells = refl; present = refl; handle = refl }
 
-pub gives-none : (h : Held) → Gives h h
+pub gives-none : {at : Micros} (h : Held) → Gives at h h
 gives-none h = nothing (record { same = same-refl h; results = refl; active = refl })
 
 same-then : {h g k : Held} → Same h g → Same g k → Same h k
@@ -86,10 +89,12 @@ same-then a b =
       reports = b .reports ∙ a .reports;
       keys = b .keys ∙ a .keys;
       cells = b .cells ∙ a .cells;
+      present = b .present ∙ a .present;
+      handle = b .handle ∙ a .handle;
     }
 
 -- what is given after a time in which nothing was
-pub gives-then : {h g k : Held} → Goes-on h g → Gives g k → Gives h k
+pub gives-then : {at : Micros} {h g k : Held} → Goes-on h g → Gives at g k → Gives at h k
 gives-then a (nothing b) = nothing (record { same = same-then (a .same) (b .same); results = b .results ∙ a .results; active = b .active ∙ a .active })
 gives-then a (one b) =
     one
@@ -98,11 +103,12 @@ gives-then a (one b) =
       new = b .new;
       results = b .results ∙ ap (λ (l : List (Valued StepResult)). pushed mostResults l (b .new)) (a .results);
       index = b .index ∙ a .same .index;
+      time = b .time;
       was = sym (a .active) ∙ b .was;
       is = b .is;
     })
 
--- work that leaves the script, the results and every byte of their values
+-- work that leaves the script, the link, the results and every byte of their values
 pub record Apart (h g : Held) : Type 0 where
   pub «next» : g .state .counters .«next_index» ≡ h .state .counters .«next_index»
   pub queue : g .state .queue ≡ h .state .queue
@@ -112,6 +118,8 @@ pub record Apart (h g : Held) : Type 0 where
   pub len : g .state .running .len ≡ h .state .running .len
   pub reports : g .state .reports ≡ h .state .reports
   pub keys : g .state .keys ≡ h .state .keys
+  pub present : g .state .bearer .present ≡ h .state .bearer .present
+  pub handle : g .state .bearer .link .handle ≡ h .state .bearer .link .handle
   pub results : g .state .results ≡ h .state .results
   pub values : (k : ℕ) → k < mostResults → (n : ℕ) → n ≤ resultSize → bytes (g .store) (resultAt k) n ≡ bytes (h .store) (resultAt k) n
 
@@ -129,7 +137,7 @@ kept-values h g w e v =
 pub apart : {h g : Held} → Whole h → Apart h g → Goes-on h g
 apart {h} {g} w a =
     record {
-      same = record { «next» = a .«next»; queue = a .queue; index = a .index; step = a .step; len = a .len; reports = a .reports; keys = a .keys; cells = ap (λ (r : Results). length (r .kept)) (a .results) };
+      same = record { «next» = a .«next»; queue = a .queue; index = a .index; step = a .step; len = a .len; reports = a .reports; keys = a .keys; cells = ap (λ (r : Results). length (r .kept)) (a .results); present = a .present; handle = a .handle };
       results = kept-values h g w (a .results) (a .values);
       active = a .active;
     }
@@ -137,8 +145,9 @@ apart {h} {g} w a =
 -- the store is as it was
 pub apart-state : {h : Held} {c : Central} → c .counters .«next_index» ≡ h .state .counters .«next_index» → c .queue ≡ h .state .queue
     → c .running .index ≡ h .state .running .index → c .running .active ≡ h .state .running .active → c .results ≡ h .state .results
-    → c .running .step ≡ h .state .running .step → c .running .len ≡ h .state .running .len → c .reports ≡ h .state .reports → c .keys ≡ h .state .keys → Apart h (onState h c)
-apart-state a b d e f i j k l = record { «next» = a; queue = b; index = d; active = e; step = i; len = j; reports = k; keys = l; results = f; values = λ x p n m. refl }
+    → c .running .step ≡ h .state .running .step → c .running .len ≡ h .state .running .len → c .reports ≡ h .state .reports → c .keys ≡ h .state .keys
+    → c .bearer .present ≡ h .state .bearer .present → c .bearer .link .handle ≡ h .state .bearer .link .handle → Apart h (onState h c)
+apart-state a b d e f i j k l m n = record { «next» = a; queue = b; index = d; active = e; step = i; len = j; reports = k; keys = l; present = m; handle = n; results = f; values = λ x p y q. refl }
 
 -- a step ends: the n bytes of the store from `from` on are its value
 module _ (h : Held) (at : Micros) (st : StepStatus) (from n : ℕ) (w : Whole h) (room : from + n ≤ storeSize) (small : n ≤ resultSize) where
@@ -167,15 +176,16 @@ module _ (h : Held) (at : Micros) (st : StepStatus) (from n : ℕ) (w : Whole h)
   unfolding ended pushedResult
   cells = length-onto (h .state .results .kept) (pushed mostResults l r) (omega (arith, pushed-within mostResults l r, w .cells))
 
-  ended-gives : h .state .running .active ≡ true → Gives h (ended h at st from n)
+  ended-gives : h .state .running .active ≡ true → Gives at h (ended h at st from n)
   unfolding ended
   ended-gives e =
       one
       (record {
-        same = record { «next» = refl; queue = refl; index = refl; step = refl; len = refl; reports = refl; keys = refl; cells = cells };
+        same = record { «next» = refl; queue = refl; index = refl; step = refl; len = refl; reports = refl; keys = refl; cells = cells; present = refl; handle = refl };
         new = new;
         results = pushes;
         index = refl;
+        time = refl;
         was = e;
         is = refl;
       })
@@ -185,10 +195,10 @@ module _ (h : Held) (at : Micros) (st : StepStatus) (from n : ℕ) (w : Whole h)
   unfolding finish
   finish-pushes e = ap (λ (b : Bool). keptResults (pick b (ended h at st from n) h)) e ∙ pushes
 
-  pub gives-finish : Gives h (finish h at st from n)
+  pub gives-finish : Gives at h (finish h at st from n)
   unfolding finish
   gives-finish = go (h .state .running .active) refl
     where
-      go : (b : Bool) → h .state .running .active ≡ b → Gives h (pick b (ended h at st from n) h)
+      go : (b : Bool) → h .state .running .active ≡ b → Gives at h (pick b (ended h at st from n) h)
       go true e = ended-gives e
       go false e = gives-none h

@@ -4,3 +4,4 @@ pub mod Starts
 pub mod Channels
 pub mod Books
 pub mod Accounting
+pub mod Times

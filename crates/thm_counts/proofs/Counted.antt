@@ -21,15 +21,16 @@ use Rattle.script_rules.proofs.KeepTurns.{of-fit}
 use Rattle.script_rules.specs.Outcome.{Outcome, done}
 use Rattle.script_rules.proofs.CallLaws.{passed-batch}
 use Rattle.link_rules.specs.Fragment as link
-use Rattle.thm_trail.specs.Calls.{Call, batch, timer, connected, disconnected, advertising, scanResponse, fragment, reads, does, left, run, gateOf, done?}
+use Rattle.thm_trail.specs.Calls.{Call, batch, timer, connected, disconnected, advertising, scanResponse, fragment, reads, does, left, fresh, run, gateOf, done?}
 use Rattle.thm_trail.specs.Trail.{Pass, begins, goes, final}
 use Rattle.thm_trail.specs.Log.{roomFor, takesIn, taken}
 use Rattle.thm_trail.proofs.Ends.{refusedOf, does-law}
 use Rattle.thm_trail.proofs.Hops.{Hop, ended, began, meets, parts, still, acted, Hops, none, more}
 use Rattle.thm_trail.proofs.Goes.{good}
 use Rattle.thm_accounting.proofs.Books.{Books}
-use Rattle.thm_accounting.proofs.Accounting.{fresh, books-fresh, books-call}
-use Rattle.thm_counts.specs.Tally.{handed, handsIn, handedIn, noticed, noticedAlong, noticedBy, notices}
+use Rattle.thm_accounting.proofs.Accounting.{books-fresh, books-call}
+use Rattle.thm_counts.specs.Tally.{handed, handsIn, handedIn, noticed}
+use Rattle.thm_counts.proofs.Along.{noticedAlong, noticedBy, notices}
 use Rattle.thm_counts.proofs.Kept.{kept-none, kept-then, kept-ends, kept-take, kept-start}
 use Rattle.thm_counts.proofs.Channels.{Moves, of-kept, moves-then, moves-channel}
 use Rattle.thm_counts.proofs.Pushed.{Pushed, pushed-all}
@@ -68,7 +69,7 @@ begins-counted l q h (disconnected at) e k = pushed-none h
 begins-counted l q h (advertising v) e k = pushed-none h
 begins-counted l q h (scanResponse at a d) e k = pushed-none h
 begins-counted l q h (fragment out at start piece) e k = pushed-none h
-begins-counted l q h reads e k = pushed-none h
+begins-counted l q h (reads r) e k = pushed-none h
 
 counted-none : (h g : Held) → g .state .counters ≡ h .state .counters → Counted h g 0 0 0
 counted-none h g e =
@@ -88,7 +89,7 @@ counted-refused h (fragment out at start piece) = go (eqb (gateOf h (fragment ou
     go : (b : Bool) → Counted h (record { state = pick b (link.withHeld (h .state) 0) (h .state); store = h .store }) 0 0 0
     go true = counted-none h (record { state = link.withHeld (h .state) 0; store = h .store }) refl
     go false = counted-none h h refl
-counted-refused h reads = counted-none h h refl
+counted-refused h (reads r) = counted-none h h refl
 
 counted-call : (l : List (Valued StepResult)) (q : List Queued) (h : Held) (c : Call) → Books l q h
     → Counted h (left (does h c)) (length (takesIn h c)) (handsIn h c) (noticedBy h c)

@@ -1,3 +1,4 @@
+pub mod Along
 pub mod Kept
 pub mod Channels
 pub mod Pushed

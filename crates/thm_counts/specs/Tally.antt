@@ -1,4 +1,4 @@
--- What `refused_steps` and `notified` count, read off the calls and what came in with them: steps handed in, notifications heard.
+-- What `refused_steps` and `notified` count: the steps that the calls handed in, the notifications among what came in with them.
 use Prim.Native.Nat.{ℕ, _+_}
 use mathlib.Core.Bool.{Bool, _&&_}
 use mathlib.Core.List.{List, [], _∷_}
@@ -9,7 +9,7 @@ use Rattle.att_pdu.specs.Numbers.{opHandleValueNtf, opHandleValueInd}
 use Rattle.script_rules.specs.World.{Held}
 use Rattle.script_rules.specs.BatchSteps.{steps}
 use Rattle.thm_trail.specs.Calls.{Call, batch, timer, connected, disconnected, advertising, scanResponse, fragment, reads, does, left, done?}
-use Rattle.thm_trail.specs.Trail.{News, link-came, link-went, att-heard, Pass, goes}
+use Rattle.thm_trail.specs.Trail.{News, link-came, link-went, att-heard}
 
 -- ---- steps handed in
 
@@ -22,7 +22,7 @@ handed (disconnected at) = 0
 handed (advertising v) = 0
 handed (scanResponse at a d) = 0
 handed (fragment out at start piece) = 0
-handed reads = 0
+handed (reads r) = 0
 
 -- by a call: none where it is refused
 abbrev pub handsIn : Held → Call → ℕ
@@ -44,17 +44,3 @@ noticed [] = 0
 noticed (link-came handle ∷ l) = noticed l
 noticed (link-went ∷ l) = noticed l
 noticed (att-heard p ∷ l) = pick (isNotice p) 1 0 + noticed l
-
--- along a trail
-abbrev pub noticedAlong : List Pass → ℕ
-noticedAlong [] = 0
-noticedAlong (p ∷ ps) = noticed (p .came) + noticedAlong ps
-
--- by a call: none where it is refused
-abbrev pub noticedBy : Held → Call → ℕ
-noticedBy h c = pick (done? h c) (noticedAlong (goes h c)) 0
-
--- by a sequence of calls
-abbrev pub notices : Held → List Call → ℕ
-notices h [] = 0
-notices h (c ∷ cs) = noticedBy h c + notices (left (does h c)) cs

@@ -1,6 +1,6 @@
 -- Fit goes to fit (01, 'Refusal numbers'): whatever a call is given, and whether it is refused or not. No call after it gets refusal 1.
 use Prim.Native.Nat.{ℕ, _≤_}
-use mathlib.Core.Path.{_≡_, refl}
+use mathlib.Core.Path.{_≡_, refl, sym, ap, subst}
 use mathlib.Core.Bool.{Bool, true, false, false≢true}
 use mathlib.Core.List.{List}
 use native.Mathlib.Omega.{arith}
@@ -30,11 +30,12 @@ use Rattle.script_rules.proofs.KeepWaiting.{push-all-timed}
 use Rattle.script_rules.proofs.KeepStarts.{stays-ends}
 use Rattle.script_rules.specs.Script.{advance}
 use Rattle.script_rules.proofs.AdvanceLaws.{advanced, advanced-alone}
+use Rattle.script_rules.proofs.UnlinkedLaws.{present-finish, advance-unlinked}
 use Rattle.script_rules.specs.Outcome.{Outcome, Quiet, begins, done, refused, quietly, quietlyRefused}
 use Rattle.script_rules.proofs.CallBeginLaws.{sound-stays, whole-stays, may-begin, may-begin-quietly}
 use Rattle.script_rules.specs.Batch.{gateBatch, pushSteps}
 use Rattle.script_rules.proofs.CallLaws.{passed-batch, pushed-sound}
-use Rattle.script_rules.specs.Events.{timedOut, due, expire, onTimer, linked, isConnect, connect, onConnected, unlinked, goesOn, cutStatus, cutOff, lose, onDisconnected}
+use Rattle.script_rules.specs.Events.{timedOut, due, expire, onTimer, linked, isConnect, connect, onConnected, unlinked, goesOn, cutStatus, cutOff, silent, lose, onDisconnected}
 use Rattle.thm_fit.specs.Lasting.{Lasting, narrowBatch}
 
 -- the same as facts
@@ -86,10 +87,17 @@ module _ (at : Micros) (time : at .0 ≤ latest) where
   lost h w k =
       let s = by (goesOn (g .state .running .step)) in
       let a = advanced-alone at time (cutOff g at (g .state .running .step)) (whole-stays h (cutOff g at (g .state .running .step)) w s) (s .timed (k .timed)) in
-      record { fit = a .fit; timed = a .timed }
+      subst (λ (v : Held). Kept (v .state)) (sym (ap (λ (v : World). v .held) (advance-unlinked (silent c) at (away (goesOn (g .state .running .step)))))) (record { fit = a .fit; timed = a .timed })
     where
       g : Held
       g = onState h (withBearer (h .state) (unlinked (h .state .bearer)))
+
+      c : Held
+      c = pick (goesOn (g .state .running .step)) g (ends g at (cutStatus (g .state .running .step)))
+
+      away : (b : Bool) → pick b g (ends g at (cutStatus (g .state .running .step))) .state .bearer .present ≡ false
+      away true = refl
+      away false = present-finish g at (cutStatus (g .state .running .step)) _ 0
 
       gone : Stays h g
       gone = stays-absent h (unlinked (h .state .bearer)) (w .nearly) refl

@@ -11,14 +11,14 @@ use Rattle.script_rules.specs.Bearers.{linked, unlinked}
 use Rattle.script_rules.specs.Timeouts.{timedOut, due}
 use Rattle.script_rules.specs.World.{Held, World, onHeld, onState}
 use Rattle.script_rules.specs.Waiting.{takeStep}
-use Rattle.script_rules.specs.Start.{ends, startUnlinked, start}
-use Rattle.script_rules.specs.Script.{canGo, stepOnce, advances, advance, stepUnlinked, advancesUnlinked, advanceUnlinked}
+use Rattle.script_rules.specs.Start.{ends, start}
+use Rattle.script_rules.specs.Script.{canGo, stepOnce, advances, advance}
 use Rattle.script_rules.proofs.AdvanceLaws.{goes-on}
-use Rattle.script_rules.specs.Comings.{expire, greeted, connect, goesOn, cutStatus, cutOff, lose}
+use Rattle.script_rules.specs.Comings.{expire, greeted, connect, goesOn, cutStatus, cutOff, silent, lose}
 use Rattle.thm_reading.proofs.Blind.{cut, cutWorld, held-twice, world-twice, pick-if, pick-both}
 use Rattle.thm_reading.proofs.Turns.{finish-blind, finish-world}
 use Rattle.thm_reading.proofs.Queue.{take-blind}
-use Rattle.thm_reading.proofs.Starts.{start-blind, start-unlinked-blind}
+use Rattle.thm_reading.proofs.Starts.{start-blind}
 
 module _ (at : Micros) where
   -- ---- one step
@@ -29,13 +29,6 @@ module _ (at : Micros) where
       start-blind at (takes w)
       ∙ (λ i. cutWorld (start (record { held = take-blind (w .held) some i; told = w .told }) at))
       ∙ sym (start-blind at (takes (cutWorld w)))
-
-  -- the step that a queue of live entries gives is the step that the queue gives
-  step-unlinked-blind : (h : Held) → 0 < h .state .queue .count → cut (stepUnlinked h at) ≡ cut (stepUnlinked (cut h) at)
-  step-unlinked-blind h some =
-      start-unlinked-blind at (takeStep h) (takeStep h .state .running .step)
-      ∙ ap (λ (g : Held). cut (startUnlinked g at (g .state .running .step))) (take-blind h some)
-      ∙ sym (start-unlinked-blind at (takeStep (cut h)) (takeStep (cut h) .state .running .step))
 
   -- ---- as many as wait
 
@@ -56,24 +49,6 @@ module _ (at : Micros) where
   pub advance-blind : (w : World) → cutWorld (advance w at) ≡ cutWorld (advance (cutWorld w) at)
   unfolding advance
   advance-blind w = advances-blind (w .held .state .queue .count) w
-
-  advances-unlinked-blind : (n : ℕ) (h : Held) → cut (advancesUnlinked n h at) ≡ cut (advancesUnlinked n (cut h) at)
-  unfolding advancesUnlinked
-  advances-unlinked-blind zero h = held-twice h
-  advances-unlinked-blind (suc n) h =
-      pick-if cut (canGo (h .state)) (canGo (h .state))
-      (advancesUnlinked n (stepUnlinked h at) at) h
-      (advancesUnlinked n (stepUnlinked (cut h) at) at) (cut h)
-      refl
-      (λ e.
-      advances-unlinked-blind n (stepUnlinked h at)
-      ∙ ap (λ (g : Held). cut (advancesUnlinked n g at)) (step-unlinked-blind h (goes-on (h .state) e .some))
-      ∙ sym (advances-unlinked-blind n (stepUnlinked (cut h) at)))
-      (held-twice h)
-
-  pub advance-unlinked-blind : (h : Held) → cut (advanceUnlinked h at) ≡ cut (advanceUnlinked (cut h) at)
-  unfolding advanceUnlinked
-  advance-unlinked-blind h = advances-unlinked-blind (h .state .queue .count) h
 
   -- the script goes on after work that is blind
   pub then-advance : (w v : World) → cutWorld w ≡ cutWorld v → cutWorld (advance w at) ≡ cutWorld (advance v at)
@@ -115,6 +90,5 @@ module _ (at : Micros) where
   lose-blind h =
       let s : Step = h .state .running .step in
       let parts : Held → Held = λ g. onState g (withBearer (g .state) (unlinked (g .state .bearer))) in
-      advance-unlinked-blind (cutOff (parts h) at s)
-      ∙ ap (λ (g : Held). cut (advanceUnlinked g at)) (cut-off-blind (parts h) s)
-      ∙ sym (advance-unlinked-blind (cutOff (parts (cut h)) at s))
+      ap (λ (v : World). v .held)
+      (then-advance (silent (cutOff (parts h) at s)) (silent (cutOff (parts (cut h)) at s)) (ap (λ (g : Held). silent g) (cut-off-blind (parts h) s)))

@@ -49,7 +49,7 @@ pub record Asking (w v : World) : Type 0 where
 
 pub data Asks (w v : World) : Type 0 where
   calm : Calmly w v → Asks w v
-  none : awaits (v .held .state .bearer) ≡ false → Asks w v
+  none : awaits (v .held .state .bearer) ≡ false → Voice (w .told) (v .told) → Asks w v
   asks : Asking w v → Asks w v
 
 pub asks-none : (w : World) → Asks w w
@@ -63,7 +63,7 @@ mild {w} a b c d = record { pending = a; present = b; active = c; index = d; voi
 -- after a change of other parts
 pub asks-then : {w : World} {g : Held} {v : World} → Calmly w (onHeld w g) → Asks (onHeld w g) v → Asks w v
 asks-then a (calm b) = calm (record { pending = b .pending ∙ a .pending; present = b .present ∙ a .present; active = b .active ∙ a .active; index = b .index ∙ a .index; voice = b .voice })
-asks-then a (none b) = none b
+asks-then a (none b v) = none b v
 asks-then a (asks b) = asks (record { pdu = b .pdu; short = b .short; told = b .told; opcode = b .opcode; request = b .request; active = b .active; index = b .index ∙ a .index })
 
 pub not-awaited : (b : Bool) → (b && false) ≡ false
@@ -76,8 +76,8 @@ same-wait p q b d e f = rw (e, f)
 -- after the wait has ended
 pub asks-quit : {w : World} {g : Held} {v : World} → awaits (g .state .bearer) ≡ false → g .state .running .index ≡ w .held .state .running .index → Asks (onHeld w g) v → Asks w v
 asks-quit {w} {g} {v} e i (calm b) =
-    none (same-wait (v .held .state .bearer .link .pending) (g .state .bearer .link .pending) (v .held .state .bearer .present) (g .state .bearer .present) (b .pending) (b .present) ∙ e)
-asks-quit e i (none b) = none b
+    none (same-wait (v .held .state .bearer .link .pending) (g .state .bearer .link .pending) (v .held .state .bearer .present) (g .state .bearer .present) (b .pending) (b .present) ∙ e) (b .voice)
+asks-quit e i (none b v) = none b v
 asks-quit e i (asks b) = asks (record { pdu = b .pdu; short = b .short; told = b .told; opcode = b .opcode; request = b .request; active = b .active; index = b .index ∙ i })
 
 -- a step ends: nothing is awaited
@@ -86,7 +86,7 @@ unfolding finish ended
 asks-finish w at st from n = go (w .held .state .running .active)
   where
     go : (b : Bool) → Asks w (onHeld w (pick b (ended (w .held) at st from n) (w .held)))
-    go true = none (not-awaited (w .held .state .bearer .present))
+    go true = none (not-awaited (w .held .state .bearer .present)) (hushed (itself (w .told)))
     go false = asks-none w
 
 -- a request goes out

@@ -257,7 +257,7 @@ asks-exchange w theirs =
 instead : (w : World) (g : Held) (t : Told) → Voice (w .told) t → Asks w (onHeld w g) → Asks w (record { held = g; told = t })
 unfolding send
 instead w g t v (calm c) = calm (record { pending = c .pending; present = c .present; active = c .active; index = c .index; voice = v })
-instead w g t v (none h) = none h
+instead w g t v (none h u) = none h v
 instead w g t v (asks b) = absurd (omega (arith, b .told .frames))
 
 asks-notice : (w : World) (at : Micros) (n : ℕ) (indication : Bool) → Asks w (notice w at n indication)

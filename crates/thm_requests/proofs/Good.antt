@@ -11,12 +11,11 @@ use borrow.Author.Tests.{ltb-true, ltb-false, eqb-true}
 use Rattle.bytes.specs.Choice.{pick}
 use Rattle.state_places.specs.Sizes.{mostResults}
 use Rattle.lists.specs.Blocks.{Valued, bytes}
-use Rattle.lists.specs.Queue.{newest, pushed}
-use Rattle.lists.proofs.QueueLaws.{pushed-newest}
+use Rattle.lists.specs.Queue.{pushed}
 use Rattle.time.specs.declared.Micros.{Micros}
 use Rattle.uuid.specs.declared.Uuid.{Uuid}
 use Rattle.att_pdu.specs.Numbers.{opErrorRsp, opReadReq, opReadRsp}
-use Rattle.state.specs.Fresh.{noQueued, noResult}
+use Rattle.state.specs.Fresh.{noQueued}
 use Rattle.state.specs.declared.Queued.{Queued}
 use Rattle.state.specs.declared.Step.the-variants.{Read}
 use Rattle.state.specs.declared.StepResult.{StepResult}
@@ -33,22 +32,18 @@ use Rattle.link_rules.specs.Payload.{payloadAt, payload}
 use Rattle.link_rules.specs.Responses.{counts}
 use Rattle.link_rules.specs.Channel.{onChannel}
 use Rattle.thm_trail.specs.Trail.{att-heard, Pass, pass, met, parted, cameOn}
-use Rattle.thm_trail.specs.Log.{keptResults, upTo, newer, gave}
+use Rattle.thm_trail.specs.Log.{keptResults, noValued, upTo, newer, gave}
 use Rattle.thm_trail.proofs.Hops.{Open, Hop, ended, began, meets, parts, still, acted}
 use Rattle.thm_wire.specs.Wire.{sentIn}
-use Rattle.thm_accounting.proofs.Numbered.{gave-one}
 use Rattle.thm_accounting.proofs.Gives.{Gives, nothing, one, Whole, kept-values}
 use Rattle.thm_accounting.proofs.Starts.{gives-ends, gives-start}
 use Rattle.thm_accounting.proofs.Channels.{gives-channel}
-use Rattle.thm_accounting.proofs.Books.{Books, books-take, kept-take, whole-take, whole}
-use Rattle.thm_requests.specs.Events.{Event, came, asked, result, askedIn, newsOf, resultsOf, eventsIn, Awaited, Answered}
+use Rattle.thm_accounting.proofs.Books.{Books, gave-pushed, books-take, kept-take, whole-take, whole}
+use Rattle.thm_requests.specs.Events.{Event, came, asked, result, askedIn, newsOf, resultsOf, Awaited, Answered}
+use Rattle.thm_requests.proofs.Along.{eventsIn}
 use Rattle.thm_requests.proofs.Asks.{As}
 use Rattle.thm_requests.proofs.Reading as reading
 use Rattle.thm_requests.proofs.Watch.{Waits, none-gave, sent-none}
-
--- no result
-abbrev pub noValued : Valued StepResult
-noValued = record { entry = noResult; value = [] }
 
 -- l was given, q was taken in: of each Read that ended well
 abbrev pub Good : List Event → List (Valued StepResult) → List Queued → Type 0
@@ -78,29 +73,21 @@ pub data Ends (new : List Event) (es : List Event) (h g : Held) : Type 0 where
 
 -- ---- what was given
 
-gave-pushed : (l : List (Valued StepResult)) (q : List Queued) (h g : Held) (x : Valued StepResult) → Books l q h → x .entry .index ≡ length l
-    → keptResults g ≡ pushed mostResults (keptResults h) x → gave h g ≡ x ∷ []
-gave-pushed l q h g x b i e =
-    ap (λ (t : List (Valued StepResult)). newer (upTo t) (keptResults g)) (b .table)
-    ∙ ap (λ (t : List (Valued StepResult)). newer (upTo (newest mostResults l)) t)
-    (e ∙ ap (λ (t : List (Valued StepResult)). pushed mostResults t x) (b .table) ∙ pushed-newest mostResults l x)
-    ∙ gave-one mostResults l x (omega arith) (b .order) i
-
 pub data AtMost (h g : Held) : Type 0 where
   no : gave h g ≡ [] → AtMost h g
   yes : (x : Valued StepResult) → gave h g ≡ x ∷ [] → AtMost h g
 
-at-most : (l : List (Valued StepResult)) (q : List Queued) (h g : Held) → Books l q h → Gives h g → AtMost h g
+at-most : {at : Micros} (l : List (Valued StepResult)) (q : List Queued) (h g : Held) → Books l q h → Gives at h g → AtMost h g
 at-most l q h g b (nothing r) = no (none-gave l q h g b (r .results))
 at-most l q h g b (one e) = yes (e .new) (gave-pushed l q h g (e .new) b (e .index ∙ b .number (e .was)) (e .results))
 
 -- where no step runs, none ends
-idle-gave : (l : List (Valued StepResult)) (q : List Queued) (h g : Held) → Books l q h → Gives h g → h .state .running .active ≡ false → gave h g ≡ []
+idle-gave : {at : Micros} (l : List (Valued StepResult)) (q : List Queued) (h g : Held) → Books l q h → Gives at h g → h .state .running .active ≡ false → gave h g ≡ []
 idle-gave l q h g b (nothing r) e = none-gave l q h g b (r .results)
 idle-gave l q h g b (one x) e = absurd (false≢true (sym e ∙ x .was))
 
 -- the step that runs is the next of those taken in
-head-is : (n : ℕ) (q : List Queued) (x : Queued) (t : List Queued) → x ∷ t ≡ drop n q → getD q n noQueued ≡ x
+pub head-is : (n : ℕ) (q : List Queued) (x : Queued) (t : List Queued) → x ∷ t ≡ drop n q → getD q n noQueued ≡ x
 head-is n q x t e =
     let z : n + 0 ≡ n = omega arith in
     sym (ap (λ (k : ℕ). getD q k noQueued) z) ∙ sym (getD-drop n q 0 noQueued) ∙ ap (λ (y : List Queued). getD y 0 noQueued) (sym e)

@@ -1,3 +1,4 @@
+pub mod Along
 pub mod Asks
 pub mod Starts
 pub mod Channels
@@ -5,3 +6,4 @@ pub mod Reading
 pub mod Watch
 pub mod Good
 pub mod Sequences
+pub mod Turns

@@ -24,15 +24,16 @@ use Rattle.script_rules.proofs.KeepTurns.{of-fit}
 use Rattle.script_rules.specs.Outcome.{Outcome, done}
 use Rattle.script_rules.proofs.CallLaws.{passed-batch}
 use Rattle.link_rules.specs.Fragment as link
-use Rattle.thm_trail.specs.Calls.{Call, batch, timer, connected, disconnected, advertising, scanResponse, fragment, reads, does, left, run, gateOf, done?}
+use Rattle.thm_trail.specs.Calls.{Call, batch, timer, connected, disconnected, advertising, scanResponse, fragment, reads, does, left, fresh, run, gateOf, done?}
 use Rattle.thm_trail.specs.Trail.{Pass, begins, goes, final}
 use Rattle.thm_trail.specs.Log.{gave, givenIn, givenBy, log, roomFor, takesIn, taken}
 use Rattle.thm_trail.proofs.Ends.{refusedOf, does-law}
 use Rattle.thm_trail.proofs.Hops.{Hops, none, more}
 use Rattle.thm_trail.proofs.Goes.{good}
 use Rattle.thm_accounting.proofs.Books.{Books, sound-hop, books-hop}
-use Rattle.thm_accounting.proofs.Accounting.{fresh, books-fresh, books-begins, books-refused, books-same, put-all}
-use Rattle.thm_requests.specs.Events.{Event, asked, eventsIn, eventsAlong, eventsBy, events}
+use Rattle.thm_accounting.proofs.Accounting.{books-fresh, books-begins, books-refused, books-same, put-all}
+use Rattle.thm_requests.specs.Events.{Event, asked}
+use Rattle.thm_requests.proofs.Along.{eventsIn, eventsAlong, eventsBy, events}
 use Rattle.thm_requests.proofs.Watch.{Waits, waits-hop}
 use Rattle.thm_requests.proofs.Good.{Good, good-hop}
 
@@ -91,7 +92,7 @@ waits-begins es l q h (disconnected at) e k i = i
 waits-begins es l q h (advertising v) e k i = i
 waits-begins es l q h (scanResponse at a d) e k i = i
 waits-begins es l q h (fragment out at start piece) e k i = i
-waits-begins es l q h reads e k i = i
+waits-begins es l q h (reads r) e k i = i
 
 waits-refused : (es : List Event) (h : Held) (c : Call) → Waits es h → Waits es (left (refusedOf h c))
 waits-refused es h (batch out at b values) i = i
@@ -105,7 +106,7 @@ waits-refused es h (fragment out at start piece) i = go (eqb (gateOf h (fragment
     go : (b : Bool) → Waits es (record { state = pick b (link.withHeld (h .state) 0) (h .state); store = h .store })
     go true = waits-same es h (record { state = link.withHeld (h .state) 0; store = h .store }) refl refl refl i
     go false = i
-waits-refused es h reads i = i
+waits-refused es h (reads r) i = i
 
 all-call : (es : List Event) (l : List (Valued StepResult)) (q : List Queued) (h : Held) (c : Call) → All es l q h
     → All (es ++ eventsBy h c) (l ++ givenBy h c) (q ++ takesIn h c) (left (does h c))

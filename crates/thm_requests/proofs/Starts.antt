@@ -49,7 +49,7 @@ use lib.ListN.{take, drop, length-append, length-take}
 use borrow.Author.Tests.{ltb-false}
 use Rattle.bytes.proofs.ByteLaws.{length-leBytes}
 use Rattle.att_pdu.proofs.PduLaws.{length-exchangeMtuReq, length-findInformationReq, length-readByTypeReq, length-readByGroupTypeReq, length-readReq}
-use Rattle.thm_requests.proofs.Asks.{Asks, calm, none, hushed, asks-none, mild, asks-then, asks-finish, asks-request, asks-asking, not-awaited}
+use Rattle.thm_requests.proofs.Asks.{itself, speaks, Asks, calm, none, hushed, asks-none, mild, asks-then, asks-finish, asks-request, asks-asking, not-awaited}
 
 pub asks-ends : (w : World) (at : Micros) (st : StepStatus) → Asks w (onHeld w (ends (w .held) at st))
 asks-ends w at st = asks-finish w at st heldAt 0
@@ -139,12 +139,15 @@ module _ (w : World) (at : Micros) (a : w .held .state .running .active ≡ true
   asks-subscribe indicate (At x) = asks-subscribe-at indicate (x .cccd)
 
   -- a command is no request, and its step ends
-  asks-commanded : (handle n : ℕ) → Asks w (commanded w at handle n)
+  asks-commanded : (handle n : ℕ) → n + 3 ≤ mostMtu → Asks w (commanded w at handle n)
   unfolding finish ended
-  asks-commanded handle n = go (w .held .state .running .active) a
+  asks-commanded handle n k = go (w .held .state .running .active) a
     where
       go : (b : Bool) → b ≡ true → Asks w (record { held = pick b (ended (w .held) at Ok heldAt 0) (w .held); told = send (w .told) cidAtt (attPdu opWriteCmd handle (w .held .store) runningAt n) })
-      go true e = none (not-awaited (w .held .state .bearer .present))
+      go true e =
+          let pdu = attPdu opWriteCmd handle (w .held .store) runningAt n in
+          none (not-awaited (w .held .state .bearer .present))
+          (speaks cidAtt pdu (omega arith) (omega (arith, k, value-pdu opWriteCmd handle (w .held .store) runningAt n)) refl (itself (send (w .told) cidAtt pdu)))
       go false e = absurd (false≢true e)
 
   asks-write : (response : Bool) (x : Which) → Asks w (write w at response x)
@@ -162,7 +165,7 @@ module _ (w : World) (at : Micros) (a : w .held .state .running .active ≡ true
       go false e true =
           asks-request w at _ a
           (omega (arith, hi, ltb-false (w .held .state .bearer .link .mtu) (n + 3) e, value-pdu opWriteReq (x .«value_handle») (w .held .store) runningAt n)) refl
-      go false e false = asks-commanded (x .«value_handle») n
+      go false e false = asks-commanded (x .«value_handle») n (omega (arith, hi, ltb-false (w .held .state .bearer .link .mtu) (n + 3) e))
 
   asks-read : (x : Which) → Asks w (read w at x)
   unfolding read

@@ -8,9 +8,7 @@ use lib.ListN.{length, take, drop, getD, take-append-drop, drop-of-length-le, le
 use lib.Seq.{length-take-le}
 use lib.Dec.{eqb}
 use Rattle.bytes.specs.Choice.{pick}
-use Rattle.state_places.specs.Sizes.{mostResults}
 use Rattle.lists.specs.Blocks.{Valued}
-use Rattle.lists.specs.Queue.{newest}
 use Rattle.time.specs.declared.Micros.{Micros}
 use Rattle.l2cap.specs.Numbers.{cidAtt}
 use Rattle.l2cap.specs.Frame.{l2capFrame}
@@ -31,16 +29,17 @@ use Rattle.script_rules.proofs.AdvanceLaws.{GoesOn, goes-on}
 use Rattle.link_rules.specs.Payload.{payload}
 use Rattle.link_rules.specs.Channel.{onChannel}
 use Rattle.thm_trail.specs.Trail.{link-came, link-went, att-heard, Pass, pass, met, parted, cameOn}
-use Rattle.thm_trail.specs.Log.{keptResults, upTo, newer, gave}
+use Rattle.thm_trail.specs.Log.{keptResults, gave}
 use Rattle.thm_trail.proofs.Hops.{Still, Hop, ended, began, meets, parts, still, acted}
 use Rattle.thm_wire.specs.Wire.{sentIn, asSent, written, mtuOf}
 use Rattle.thm_wire.proofs.Bytes.{sent-frame, sent-written}
-use Rattle.thm_accounting.proofs.Numbered.{gave-none}
 use Rattle.thm_accounting.proofs.Gives.{Gives, nothing, one, Whole, kept-values}
 use Rattle.thm_accounting.proofs.Starts.{gives-ends, gives-start}
 use Rattle.thm_accounting.proofs.Channels.{gives-channel}
+pub use Rattle.thm_accounting.proofs.Books.{none-gave}
 use Rattle.thm_accounting.proofs.Books.{Books, kept-take, whole-take, whole}
-use Rattle.thm_requests.specs.Events.{Event, came, asked, result, askedIn, newsOf, resultsOf, eventsIn, Calm, Awaited}
+use Rattle.thm_requests.specs.Events.{Event, came, asked, result, askedIn, newsOf, resultsOf, Calm, Awaited}
+use Rattle.thm_requests.proofs.Along.{eventsIn}
 use Rattle.thm_requests.proofs.Asks.{As, itself, Voice, hushed, speaks, Calmly, Asking, Asks, calm, none, asks, asks-finish}
 use Rattle.thm_requests.proofs.Starts.{asks-start}
 use Rattle.thm_requests.proofs.Channels.{asks-channel}
@@ -71,7 +70,7 @@ sent-one w v channel payload r c m a =
     ap (asSent (mtuOf w)) e ∙ sent-frame channel payload (mtuOf w) c (omega (arith, m))
 
 -- what is no request is no event
-hushed-none : (i : ℕ) (w v : World) → Ready 64 w → Voice (w .told) (v .told) → askedIn i (sentIn w v) ≡ []
+pub hushed-none : (i : ℕ) (w v : World) → Ready 64 w → Voice (w .told) (v .told) → askedIn i (sentIn w v) ≡ []
 hushed-none i w v r (hushed a) = ap (askedIn i) (sent-none w v a)
 hushed-none i w v r (speaks channel payload c m e a) =
     ap (askedIn i) (sent-one w v channel payload r c m a)
@@ -94,15 +93,8 @@ calm-news channel p = go (eqb channel cidAtt)
     go true = tt
     go false = tt
 
--- nothing was given
-pub none-gave : (l : List (Valued StepResult)) (q : List Queued) (h g : Held) → Books l q h → keptResults g ≡ keptResults h → gave h g ≡ []
-none-gave l q h g b e =
-    ap (λ (t : List (Valued StepResult)). newer (upTo t) (keptResults g)) (b .table)
-    ∙ ap (λ (t : List (Valued StepResult)). newer (upTo (newest mostResults l)) t) (e ∙ b .table)
-    ∙ gave-none mostResults l (omega arith) (b .order)
-
 -- a step that runs on gave nothing
-runs-on : {h g : Held} → Gives h g → g .state .running .active ≡ true → keptResults g ≡ keptResults h
+pub runs-on : {at : Micros} {h g : Held} → Gives at h g → g .state .running .active ≡ true → keptResults g ≡ keptResults h
 runs-on (nothing r) e = r .results
 runs-on (one x) e = absurd (false≢true (sym (x .is) ∙ e))
 
@@ -186,10 +178,10 @@ waits-asks es w u p same r g b e =
     n = events-are w p (asked i (getD (b .pdu) 0 0) ∷ []) one-asked (g (b .active))
 
 -- any hop that begins in the world itself
-waits-any : (es : List Event) (l : List (Valued StepResult)) (q : List Queued) (w : World) (p : Pass) → Ready 64 w → Calm (newsOf (p .came)) → Books l q (w .held) → Gives (w .held) (p .to .held)
+waits-any : {at : Micros} (es : List Event) (l : List (Valued StepResult)) (q : List Queued) (w : World) (p : Pass) → Ready 64 w → Calm (newsOf (p .came)) → Books l q (w .held) → Gives at (w .held) (p .to .held)
     → Asks w (p .to) → Waits es (w .held) → Waits (es ++ eventsIn w p) (p .to .held)
 waits-any es l q w p r k b g (calm c) i = waits-calm es w p r k (λ e. none-gave l q (w .held) (p .to .held) b (runs-on g e)) c i
-waits-any es l q w p r k b g (none e) i = waits-none (es ++ eventsIn w p) (p .to .held) e
+waits-any es l q w p r k b g (none e v) i = waits-none (es ++ eventsIn w p) (p .to .held) e
 waits-any es l q w p r k b g (asks a) i = waits-asks es w w p refl r (λ e. none-gave l q (w .held) (p .to .held) b (runs-on g e)) a
 
 -- a hop in which nothing goes out
@@ -204,7 +196,7 @@ waits-hushed es l q w g b k (calm c) i e =
     let n : eventsIn w (pass v) ≡ [] =
     events-are w (pass v) [] (ap (askedIn (g .state .running .index)) (sent-none w v (itself (w .told)))) (none-gave l q (w .held) g b (k (c .active ∙ a .runs))) in
     subst (λ (t : List Event). Awaited (es ++ t) (g .state)) (sym n) (calmer es [] (w .held .state) (g .state) tt (c .active) (c .index) (c .pending) a)
-waits-hushed es l q w g b k (none x) i e = absurd (false≢true (sym x ∙ e))
+waits-hushed es l q w g b k (none x v) i e = absurd (false≢true (sym x ∙ e))
 waits-hushed es l q w g b k (asks a) i e = absurd (omega (arith, a .told .frames))
 
 calm-still : (w : World) (g : Held) → Still (w .held) g → Calmly w (onHeld w g)
@@ -252,7 +244,7 @@ waits-began es l q w at s g b = go (asks-start u at refl (s .nearly .linked .mtu
         waits-none _ (start u at .held)
         (same-wait (start u at .held .state .bearer .link .pending) (w .held .state .bearer .link .pending) (start u at .held .state .bearer .present) (w .held .state .bearer .present) (c .pending) (c .present)
         ∙ idle-none w s (o .idle))
-    go (none e) = waits-none _ (start u at .held) e
+    go (none e v) = waits-none _ (start u at .held) e
     go (asks a) = waits-asks es w u (pass (start u at)) refl r kept a
 
 pub waits-hop : (es : List Event) (l : List (Valued StepResult)) (q : List Queued) {w : World} {p : Pass} → Hop w p → Sound 65 w → Books l q (w .held) → Waits es (w .held)

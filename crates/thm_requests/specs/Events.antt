@@ -1,5 +1,5 @@
--- What happens, in order, over a sequence of calls: what came in, the requests that went out, the results given. Read off the worlds that
--- the calls pass through: a request is a frame among the bytes written, a result stands in the table.
+-- What happens: what comes in, the requests that go out, the results given. What a call does is read off the worlds that it passes through: a
+-- request is a frame among the bytes written, a result stands in the table. What comes in, and the whole of it in order: thm_heard/specs.
 use Prim.Native.Nat.{ℕ}
 use mathlib.Core.Path.{_≡_}
 use mathlib.Core.Bool.{Bool, true, _&&_}
@@ -14,7 +14,7 @@ use Rattle.state.specs.Central.{Central}
 use Rattle.state.specs.declared.StepResult.{StepResult}
 use Rattle.state_rules.specs.Fit.{isRequest}
 use Rattle.script_rules.specs.World.{Held, World}
-use Rattle.thm_trail.specs.Calls.{Call, does, left, done?}
+use Rattle.thm_trail.specs.Calls.{Call, done?}
 use Rattle.thm_trail.specs.Trail.{News, link-came, link-went, att-heard, Pass, begins, goes}
 use Rattle.thm_trail.specs.Log.{gave}
 use Rattle.thm_wire.specs.Wire.{Sent, sentIn}
@@ -43,23 +43,18 @@ abbrev pub resultsOf : List (Valued StepResult) → List Event
 resultsOf [] = []
 resultsOf (x ∷ xs) = result x ∷ resultsOf xs
 
--- in a hop: what came in, then what went out, then what was given
-abbrev pub eventsIn : World → Pass → List Event
-eventsIn w p = newsOf (p .came) ++ (askedIn (p .to .held .state .running .index) (sentIn w (p .to)) ++ resultsOf (gave (w .held) (p .to .held)))
+-- in a hop: what went out, then what was given
+abbrev pub doneIn : World → World → List Event
+doneIn w v = askedIn (v .held .state .running .index) (sentIn w v) ++ resultsOf (gave (w .held) (v .held))
 
 -- along a trail
-abbrev pub eventsAlong : World → List Pass → List Event
-eventsAlong w [] = []
-eventsAlong w (p ∷ ps) = eventsIn w p ++ eventsAlong (p .to) ps
+abbrev pub doneAlong : World → List Pass → List Event
+doneAlong w [] = []
+doneAlong w (p ∷ ps) = doneIn w (p .to) ++ doneAlong (p .to) ps
 
 -- by a call: none where it is refused
-abbrev pub eventsBy : Held → Call → List Event
-eventsBy h c = pick (done? h c) (eventsAlong (begins h c) (goes h c)) []
-
--- by a sequence of calls
-abbrev pub events : Held → List Call → List Event
-events h [] = []
-events h (c ∷ cs) = eventsBy h c ++ events (left (does h c)) cs
+abbrev pub doneBy : Held → Call → List Event
+doneBy h c = pick (done? h c) (doneAlong (begins h c) (goes h c)) []
 
 -- ---- what is promised
 

@@ -13,10 +13,12 @@ use Rattle.state.specs.declared.StepStatus.the-variants.{Ok}
 use Rattle.state_rules.specs.Refusals.{accepted}
 use Rattle.script_rules.specs.World.{Held, World, onHeld, onState}
 use Rattle.script_rules.specs.Start.{ends}
-use Rattle.script_rules.specs.Script.{canGo, stepOnce, advances, advance, advanceUnlinked}
+use Rattle.script_rules.specs.Script.{canGo, stepOnce, advances, advance}
+use Rattle.script_rules.specs.Unlinked.{advanceUnlinked}
+use Rattle.script_rules.proofs.UnlinkedLaws.{present-finish, advance-unlinked}
 use Rattle.script_rules.specs.Outcome.{Outcome, done, refused, quietly, quietlyRefused}
 use Rattle.script_rules.specs.Batch.{pushSteps}
-use Rattle.script_rules.specs.Events.{timedOut, due, expire, onTimer, isConnect, connect, onConnected, goesOn, cutStatus, cutOff, lose, onDisconnected}
+use Rattle.script_rules.specs.Events.{timedOut, due, expire, onTimer, isConnect, connect, onConnected, goesOn, cutStatus, cutOff, silent, lose, onDisconnected}
 use Rattle.radio_rules.specs.Hearing as radio
 use Rattle.link_rules.specs.Fragment.{dropped, withHeld, gathered, frameLength, frameChannel, whole, refusing}
 use Rattle.link_rules.specs.Link.{frameRead, gather, hear, onFragment}
@@ -29,9 +31,8 @@ use Rattle.adv_reports.specs.Reports.{heardAgain, againStore, heardFirst, first
 use Rattle.adv_reports.specs.Key.{key}
 use Rattle.radio_match.specs.Matching.{listens}
 use Rattle.script_rules.specs.Outcome.{unsent}
-use Rattle.thm_trail.specs.Calls.{Call, batch, timer, connected, disconnected, advertising, scanResponse, fragment, reads, blank, ofQuiet, ofRadio, does, gateOf, done?}
+use Rattle.thm_trail.specs.Calls.{Reader, Call, batch, timer, connected, disconnected, advertising, scanResponse, fragment, reads, blank, ofQuiet, ofRadio, does, gateOf, done?}
 use Rattle.thm_trail.specs.Trail.{pass, final, onwards, onward, thenOnward, timerTrail, met, connectedTrail, parted, disconnectedTrail, cameOn, fragmentTrail, begins, goes}
-use Rattle.thm_trail.proofs.Unlinked.{present-finish, advance-unlinked}
 
 -- ---- the last world of each trail
 
@@ -81,9 +82,13 @@ disconnected-final w at = go (goesOn (u .held .state .running .step))
     gone : Held
     gone = ends (u .held) at (cutStatus (u .held .state .running .step))
 
-    go : (b : Bool) → final u (pick b (onward u at) (thenOnward (onHeld u gone) at)) ≡ onHeld w (advanceUnlinked (pick b (u .held) gone) at)
-    go true = onward-final u at ∙ advance-unlinked u at refl
-    go false = onward-final (onHeld u gone) at ∙ advance-unlinked (onHeld u gone) at (present-finish (u .held) at _ _ 0)
+    -- whatever was sent before stays
+    alike : (h : Held) → h .state .bearer .present ≡ false → advance (onHeld u h) at ≡ onHeld w (advance (silent h) at .held)
+    alike h e = advance-unlinked (onHeld u h) at e ∙ sym (ap (λ (v : World). onHeld w (v .held)) (advance-unlinked (silent h) at e))
+
+    go : (b : Bool) → final u (pick b (onward u at) (thenOnward (onHeld u gone) at)) ≡ onHeld w (advance (silent (pick b (u .held) gone)) at .held)
+    go true = onward-final u at ∙ alike (u .held) refl
+    go false = onward-final (onHeld u gone) at ∙ alike gone (present-finish (u .held) at _ _ 0)
 
 fragment-final : (w : World) (at : Micros) (start : Bool) (bytes : List ℕ) → final w (fragmentTrail w at start bytes) ≡ hear w at start bytes
 unfolding fragmentTrail hear gather frameRead
@@ -117,7 +122,7 @@ refusedOf h (advertising v) = refused (h .state) (gateOf h (advertising v)) (h .
 refusedOf h (scanResponse at a d) = refused (h .state) (gateOf h (scanResponse at a d)) (h .store) blank
 refusedOf h (fragment out at start bytes) =
     refused (refusing (h .state) (gateOf h (fragment out at start bytes))) (gateOf h (fragment out at start bytes)) (h .store) out
-refusedOf h reads = refused (h .state) (gateOf h reads) (h .store) blank
+refusedOf h (reads r) = refused (h .state) (gateOf h (reads r)) (h .store) blank
 
 abbrev pub Told : Held → Call → Type 0
 Told h c = does h c ≡ pick (done? h c) (done (final (begins h c) (goes h c))) (refusedOf h c)
@@ -224,11 +229,11 @@ response-law h at a d = go (done? h (scanResponse at a d))
     go true = fine w (y (ltb i (h .state .reports .count))) refl refl (same (ltb i (h .state .reports .count)))
     go false = refl
 
-reads-law : (h : Held) → Told h reads
-reads-law h = go (gateOf h reads) (done? h reads) refl
+reads-law : (h : Held) (r : Reader) → Told h (reads r)
+reads-law h r = go (gateOf h (reads r)) (done? h (reads r)) refl
   where
     w : World
-    w = begins h reads
+    w = begins h (reads r)
 
     go : (n : ℕ) (b : Bool) → eqb n accepted ≡ b → record { state = h .state; refusal = n; sent = unsent; store = h .store; out = blank } ≡ pick b (done w) (refused (h .state) n (h .store) blank)
     go n true e = ap (λ (k : ℕ). record { state = h .state; refusal = k; sent = unsent; store = h .store; out = blank }) (eqb-true n accepted e)
@@ -244,4 +249,25 @@ does-law h (disconnected at) = disconnected-law h at
 does-law h (advertising v) = advertising-law h v
 does-law h (scanResponse at a d) = response-law h at a d
 does-law h (fragment out at start bytes) = of-final h (fragment out at start bytes) (hear (begins h (fragment out at start bytes)) at start bytes) (fragment-final (begins h (fragment out at start bytes)) at start bytes)
-does-law h reads = reads-law h
+does-law h (reads r) = reads-law h r
+
+-- the refusal that a call answers with is the gate's
+pub refusal-is : (h : Held) (c : Call) → does h c .refusal ≡ gateOf h c
+refusal-is h c = ap (λ (x : Outcome). x .refusal) (does-law h c) ∙ go (done? h c) refl
+  where
+    told : refusedOf h c .refusal ≡ gateOf h c
+    told = by c
+      where
+        by : (d : Call) → refusedOf h d .refusal ≡ gateOf h d
+        by (batch out at b values) = refl
+        by (timer out at) = refl
+        by (connected out handle at) = refl
+        by (disconnected at) = refl
+        by (advertising v) = refl
+        by (scanResponse at a d) = refl
+        by (fragment out at start piece) = refl
+        by (reads r) = refl
+
+    go : (x : Bool) → done? h c ≡ x → pick x (done (final (begins h c) (goes h c))) (refusedOf h c) .refusal ≡ gateOf h c
+    go true e = sym (eqb-true (gateOf h c) accepted e)
+    go false e = told

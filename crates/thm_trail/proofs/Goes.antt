@@ -45,14 +45,20 @@ use Rattle.link_rules.proofs.KeepChannel.{sound-channel}
 use Rattle.link_rules.specs.Fragment.{withHeld, dropped, heldBefore, gathered, frameLength, frameChannel, whole}
 use Rattle.link_rules.proofs.FragmentLaws.{PassedFragment, passed-fragment}
 use Rattle.link_rules.proofs.KeepFrames.{comes-linked, whole-short, stays-held, stays-gathered}
-use Rattle.thm_trail.specs.Calls.{Call, batch, timer, connected, disconnected, advertising, scanResponse, fragment, reads, blank, gateOf, done?}
+use Rattle.thm_trail.specs.Calls.{timerUs, Call, batch, timer, connected, disconnected, advertising, scanResponse, fragment, reads, blank, timeOf, gateOf, done?}
 use Rattle.thm_trail.specs.Trail.{pass, met, parted, thenOnward, onward, cameOn, timerTrail, connectedTrail, disconnectedTrail, fragmentTrail, begins, goes}
-use Rattle.thm_trail.proofs.Hops.{Sizes, Still, Open, ended, meets, parts, still, acted, Hops, none, more, onward-hops}
+use Rattle.thm_trail.proofs.Hops.{Sizes, Still, Open, ended, meets, parts, still, acted, Hops, AllAt, HopsAt, stop, hop, onward-hops}
 
 -- what a call that is not refused begins with, and goes through
 pub record Good (h : Held) (c : Call) : Type 0 where
   pub sound : Sound 65 (begins h c)
   pub hops : Hops (begins h c) (goes h c)
+  -- each at the call's time
+  pub times : AllAt (timeOf c) hops
+
+-- the trail, with its time
+of-hops : {h : Held} {c : Call} → Sound 65 (begins h c) → HopsAt (timeOf c) (begins h c) (goes h c) → Good h c
+of-hops s x = record { sound = s; hops = x .hops; times = x .times }
 
 -- ---- no Read ends well by the clock, by a new link or by a lost one
 
@@ -67,7 +73,7 @@ greeting s u c e = false≢true (sym (ap isConnect e) ∙ c)
 
 -- ---- the trails
 
-timer-hops : (w : World) (at : Micros) → at .0 ≤ latest → Hops w (timerTrail w at)
+timer-hops : (w : World) (at : Micros) → at .0 ≤ latest → HopsAt at w (timerTrail w at)
 unfolding timerTrail
 timer-hops w at t = go (due (w .held .state .running) at)
   where
@@ -77,13 +83,13 @@ timer-hops w at t = go (due (w .held .state .running) at)
     v : World
     v = onHeld w (ends (w .held) at st)
 
-    go : (b : Bool) → Hops w (pick b (thenOnward v at) [])
-    go true = more (ended w at st (λ u e f. late (w .held .state .running .step) u e f)) (onward-hops v at t)
-    go false = none
+    go : (b : Bool) → HopsAt at w (pick b (thenOnward v at) [])
+    go true = hop (ended w at st (λ u e f. late (w .held .state .running .step) u e f)) refl (onward-hops v at t)
+    go false = stop
 
-connected-hops : (w : World) (handle : ℕ) (at : Micros) → at .0 ≤ latest → Hops w (connectedTrail w handle at)
+connected-hops : (w : World) (handle : ℕ) (at : Micros) → at .0 ≤ latest → HopsAt at w (connectedTrail w handle at)
 unfolding connectedTrail
-connected-hops w handle at t = more (meets w handle) (go (isConnect s) refl)
+connected-hops w handle at t = hop (meets w handle) tt (go (isConnect s) refl)
   where
     u : World
     u = met w handle
@@ -94,13 +100,13 @@ connected-hops w handle at t = more (meets w handle) (go (isConnect s) refl)
     v : World
     v = onHeld u (ends (u .held) at Ok)
 
-    go : (b : Bool) → isConnect s ≡ b → Hops u (pick b (thenOnward v at) (onward u at))
-    go true e = more (ended u at Ok (λ x f g. greeting s x e f)) (onward-hops v at t)
+    go : (b : Bool) → isConnect s ≡ b → HopsAt at u (pick b (thenOnward v at) (onward u at))
+    go true e = hop (ended u at Ok (λ x f g. greeting s x e f)) refl (onward-hops v at t)
     go false e = onward-hops u at t
 
-disconnected-hops : (w : World) (at : Micros) → at .0 ≤ latest → Hops w (disconnectedTrail w at)
+disconnected-hops : (w : World) (at : Micros) → at .0 ≤ latest → HopsAt at w (disconnectedTrail w at)
 unfolding disconnectedTrail
-disconnected-hops w at t = more (parts w) (go (goesOn s))
+disconnected-hops w at t = hop (parts w) tt (go (goesOn s))
   where
     u : World
     u = parted w
@@ -111,16 +117,16 @@ disconnected-hops w at t = more (parts w) (go (goesOn s))
     v : World
     v = onHeld u (ends (u .held) at (cutStatus s))
 
-    go : (b : Bool) → Hops u (pick b (onward u at) (thenOnward v at))
+    go : (b : Bool) → HopsAt at u (pick b (onward u at) (thenOnward v at))
     go true = onward-hops u at t
-    go false = more (ended u at (cutStatus s) (λ x f g. cut s x f g)) (onward-hops v at t)
+    go false = hop (ended u at (cutStatus s) (λ x f g. cut s x f g)) refl (onward-hops v at t)
 
 -- ---- bytes held of a frame
 
 sizes-held : (c : Central) (n : ℕ) → Sizes c → Sizes (withHeld c n)
 sizes-held c n z = record { queue = z .queue; results = z .results; reports = z .reports; keys = z .keys }
 
-still-gathered : (h : Held) (start : Bool) (piece : List ℕ) → Stays h (gathered h start piece) → Still h (gathered h start piece)
+pub still-gathered : (h : Held) (start : Bool) (piece : List ℕ) → Stays h (gathered h start piece) → Still h (gathered h start piece)
 unfolding gathered
 still-gathered h start piece s =
     record {
@@ -136,7 +142,7 @@ still-gathered h start piece s =
       sizes = sizes-held (h .state) (heldBefore (h .state .bearer) start + length piece);
     }
 
-still-emptied : (h : Held) → Stays h (onState h (withHeld (h .state) 0)) → Still h (onState h (withHeld (h .state) 0))
+pub still-emptied : (h : Held) → Stays h (onState h (withHeld (h .state) 0)) → Still h (onState h (withHeld (h .state) 0))
 still-emptied h s =
     record { counters = refl; queue = refl; running = refl; results = refl; link = refl; present = refl; values = λ k p n q. refl; store = refl; nearly = s .nearly; sizes = sizes-held (h .state) 0 }
 
@@ -178,7 +184,7 @@ module _ (h : Held) (out : List ℕ) (at : Micros) (start : Bool) (piece : List 
           time = p .shared .time;
         }
 
-  fragment-hops : Hops w (fragmentTrail w at start piece)
+  fragment-hops : HopsAt at w (fragmentTrail w at start piece)
   unfolding fragmentTrail
   fragment-hops = go (dropped (h .state .bearer) start) refl (whole (v .held)) refl
     where
@@ -192,22 +198,22 @@ module _ (h : Held) (out : List ℕ) (at : Micros) (start : Bool) (piece : List 
       x = onChannel u at channel n
 
       go : (a : Bool) → dropped (h .state .bearer) start ≡ a → (b : Bool) → whole (v .held) ≡ b
-          → Hops w (pick a [] (pass v ∷ pick b (pass u ∷ record { came = cameOn channel (payload (u .held) n); to = x } ∷ onward x at) []))
-      go true e b f = none
+          → HopsAt at w (pick a [] (pass v ∷ pick b (pass u ∷ record { came = cameOn channel (payload (u .held) n); to = x } ∷ onward x at) []))
+      go true e b f = stop
       go false e true f =
           let o = opened e f in
-          more (still w (v .held) (still-gathered h start piece (first e)))
-          (more (still v (u .held) (still-emptied (v .held) (second e)))
-          (more (acted u at channel n o (sound-channel u at channel n (o .time) (o .sound) (o .unsent) (o .present) (o .short) (o .notified)))
+          hop (still w (v .held) (still-gathered h start piece (first e))) tt
+          (hop (still v (u .held) (still-emptied (v .held) (second e))) tt
+          (hop (acted u at channel n o (sound-channel u at channel n (o .time) (o .sound) (o .unsent) (o .present) (o .short) (o .notified))) refl
           (onward-hops x at (o .time))))
-      go false e false f = more (still w (v .held) (still-gathered h start piece (first e))) none
+      go false e false f = hop (still w (v .held) (still-gathered h start piece (first e))) tt stop
 
 -- ---- the radio
 
--- a report's bytes stand above the results' values
-radio-values : (c : Central) (s : List ℕ) (v : radio.Adv) (k : ℕ) → k < mostResults → (n : ℕ) → n ≤ resultSize → bytes (radio.advertised c s v .store) (resultAt k) n ≡ bytes s (resultAt k) n
+-- no byte below the reports is written
+pub radio-below : (c : Central) (s : List ℕ) (v : radio.Adv) (a n : ℕ) → a + n ≤ reportAt 0 → bytes (radio.advertised c s v .store) a n ≡ bytes s a n
 unfolding radio.advertised radio.heard radio.acted
-radio-values c s v k p n q = go (eqb (radio.refusal c (length s) v) accepted) (listens (c .running)) (ltb i (c .reports .count)) (radio.due c v)
+radio-below c s v a n p = go (eqb (radio.refusal c (length s) v) accepted) (listens (c .running)) (ltb i (c .reports .count)) (radio.due c v)
   where
     r : Reports
     r = c .reports
@@ -222,24 +228,24 @@ radio-values c s v k p n q = go (eqb (radio.refusal c (length s) v) accepted) (l
     act-store true t m j = refl
     act-store false t m j = refl
 
-    a : List ℕ
-    a = againStore i (v .bytes) s
+    again : List ℕ
+    again = againStore i (v .bytes) s
 
-    b : List ℕ
-    b = firstStore (r .count) (v .bytes) s
+    first : List ℕ
+    first = firstStore (r .count) (v .bytes) s
 
     go : (x y z t : Bool)
         → bytes
-        (pick x (pick y (pick z (act t (heardAgain r i (radio.line v)) a i) (act t (heardFirst r (radio.line v)) b (lastPlace (r .count)))) (radio.unchanged c s accepted))
+        (pick x (pick y (pick z (act t (heardAgain r i (radio.line v)) again i) (act t (heardFirst r (radio.line v)) first (lastPlace (r .count)))) (radio.unchanged c s accepted))
         (radio.unchanged c s (radio.refusal c (length s) v)) .store)
-        (resultAt k) n
-        ≡ bytes s (resultAt k) n
+        a n
+        ≡ bytes s a n
     go true true true t =
-        ap (λ (m : List ℕ). bytes m (resultAt k) n) (act-store t (heardAgain r i (radio.line v)) a i)
-        ∙ bytes-below s (reportAt i) (v .bytes) 0 (length (v .bytes)) (resultAt k) n (omega (arith, p, q))
+        ap (λ (m : List ℕ). bytes m a n) (act-store t (heardAgain r i (radio.line v)) again i)
+        ∙ bytes-below s (reportAt i) (v .bytes) 0 (length (v .bytes)) a n (omega (arith, p))
     go true true false t =
-        ap (λ (m : List ℕ). bytes m (resultAt k) n) (act-store t (heardFirst r (radio.line v)) b (lastPlace (r .count)))
-        ∙ stored-below reportPart (r .count) (v .bytes) 0 (length (v .bytes)) s (resultAt k) n (omega (arith, p, q))
+        ap (λ (m : List ℕ). bytes m a n) (act-store t (heardFirst r (radio.line v)) first (lastPlace (r .count)))
+        ∙ stored-below reportPart (r .count) (v .bytes) 0 (length (v .bytes)) s a n p
     go true false z t = refl
     go false y z t = refl
 
@@ -299,18 +305,18 @@ response-off c s at a d = go (eqb (radio.responseRefusal c (length s) at (length
     go true false = off c
     go false y = off c
 
-response-values : (c : Central) (s : List ℕ) (at : Micros) (a : Address) (d : List ℕ) (k : ℕ) → k < mostResults → (n : ℕ) → n ≤ resultSize
-    → bytes (radio.scanResponded c s at a d .store) (resultAt k) n ≡ bytes s (resultAt k) n
+pub response-below : (c : Central) (s : List ℕ) (at : Micros) (a : Address) (d : List ℕ) (b n : ℕ) → b + n ≤ reportAt 0
+    → bytes (radio.scanResponded c s at a d .store) b n ≡ bytes s b n
 unfolding radio.scanResponded
-response-values c s at a d k p n q = go (eqb (radio.responseRefusal c (length s) at (length d)) accepted) (ltb i (c .reports .count))
+response-below c s at a d b n p = go (eqb (radio.responseRefusal c (length s) at (length d)) accepted) (ltb i (c .reports .count))
   where
     i : ℕ
     i = placeOf (c .reports) (key a)
 
     go : (x y : Bool)
-        → bytes (pick x (pick y (radio.answered c s at d i) (radio.unchanged c s accepted)) (radio.unchanged c s (radio.responseRefusal c (length s) at (length d))) .store) (resultAt k) n
-        ≡ bytes s (resultAt k) n
-    go true true = bytes-below s (responseAt i) d 0 (length d) (resultAt k) n (omega (arith, p, q))
+        → bytes (pick x (pick y (radio.answered c s at d i) (radio.unchanged c s accepted)) (radio.unchanged c s (radio.responseRefusal c (length s) at (length d))) .store) b n
+        ≡ bytes s b n
+    go true true = bytes-below s (responseAt i) d 0 (length d) b n (omega (arith, p))
     go true false = refl
     go false y = refl
 
@@ -332,7 +338,7 @@ length-blank : length blank ≡ outputSize
 unfolding blank
 length-blank = length-replicate {A = ℕ} outputSize 0
 
-begins-quiet : (h : Held) → length (h .store) ≡ storeSize → Fit (h .state) → Sound 65 (begins h reads)
+begins-quiet : (h : Held) → length (h .store) ≡ storeSize → Fit (h .state) → Sound 65 (begins h (reads timerUs))
 begins-quiet h s f = begins-sound h blank s (omega (arith, length-blank)) (of-fit (h .state) f)
 
 still-radio : (h : Held) (x : radio.Outcome) → Off (h .state) (x .state) → radio-keeps.Sound (length (h .store)) x
@@ -361,39 +367,35 @@ still-radio h x o s v =
 pub good : (h : Held) (c : Call) → done? h c ≡ true → Sizes (h .state) → Good h c
 good h (batch out at b values) e z =
     let p = passed-batch (h .state) (length (h .store)) (length out) at b (length values) (eqb-true (gateOf h (batch out at b values)) 0 e) in
-    record { sound = pushed-sound (h .state) (h .store) out at b values p; hops = onward-hops (begins h (batch out at b values)) at (p .shared .time) }
+    of-hops (pushed-sound (h .state) (h .store) out at b values p) (onward-hops (begins h (batch out at b values)) at (p .shared .time))
 good h (timer out at) e z =
     let p = may-begin (h .state) (h .store) out at (eqb-true (gateOf h (timer out at)) 0 e) in
-    record { sound = p .0; hops = timer-hops (begins h (timer out at)) at (p .1) }
+    of-hops (p .0) (timer-hops (begins h (timer out at)) at (p .1))
 good h (connected out handle at) e z =
     let p = may-begin (h .state) (h .store) out at (eqb-true (gateOf h (connected out handle at)) 0 e) in
-    record { sound = p .0; hops = connected-hops (begins h (connected out handle at)) handle at (p .1) }
+    of-hops (p .0) (connected-hops (begins h (connected out handle at)) handle at (p .1))
 good h (disconnected at) e z =
     let p = passed-quiet (h .state) (length (h .store)) at (eqb-true (gateOf h (disconnected at)) 0 e) in
-    record { sound = begins-quiet h (p .store) (p .fit); hops = disconnected-hops (begins h (disconnected at)) at (p .time) }
+    of-hops (begins-quiet h (p .store) (p .fit)) (disconnected-hops (begins h (disconnected at)) at (p .time))
 good h (advertising v) e z =
     let q = shown (h .state) (length (h .store)) v (eqb-true (gateOf h (advertising v)) 0 e) in
     let x = radio.advertised (h .state) (h .store) v in
-    record {
-      sound = begins-quiet h (q .gate .store) (q .gate .fit);
-      hops = more
-          (still (begins h (advertising v)) (record { state = x .state; store = x .store })
-          (still-radio h x (radio-off (h .state) (h .store) v) (radio-keeps.advertised-sound (h .state) (h .store) (q .gate .fit) (z .reports) (z .keys) v) (radio-values (h .state) (h .store) v)))
-          none;
-    }
+    of-hops (begins-quiet h (q .gate .store) (q .gate .fit))
+    (hop
+    (still (begins h (advertising v)) (record { state = x .state; store = x .store })
+    (still-radio h x (radio-off (h .state) (h .store) v) (radio-keeps.advertised-sound (h .state) (h .store) (q .gate .fit) (z .reports) (z .keys) v) (λ k p n q. radio-below (h .state) (h .store) v (resultAt k) n (omega (arith, p, q)))))
+    tt stop)
 good h (scanResponse at a d) e z =
     let q = radio-laws.passed (h .state) (length (h .store)) at (length d) (eqb-true (gateOf h (scanResponse at a d)) 0 e) in
     let x = radio.scanResponded (h .state) (h .store) at a d in
-    record {
-      sound = begins-quiet h (q .gate .store) (q .gate .fit);
-      hops = more
-          (still (begins h (scanResponse at a d)) (record { state = x .state; store = x .store })
-          (still-radio h x (response-off (h .state) (h .store) at a d) (radio-keeps.responded-sound (h .state) (h .store) (q .gate .fit) (z .reports) (z .keys) at a d) (response-values (h .state) (h .store) at a d)))
-          none;
-    }
+    of-hops (begins-quiet h (q .gate .store) (q .gate .fit))
+    (hop
+    (still (begins h (scanResponse at a d)) (record { state = x .state; store = x .store })
+    (still-radio h x (response-off (h .state) (h .store) at a d) (radio-keeps.responded-sound (h .state) (h .store) (q .gate .fit) (z .reports) (z .keys) at a d) (λ k p n m. response-below (h .state) (h .store) at a d (resultAt k) n (omega (arith, p, m)))))
+    tt stop)
 good h (fragment out at start piece) e z =
     let p = passed-fragment (h .state) (length (h .store)) (length out) at start (length piece) (eqb-true (gateOf h (fragment out at start piece)) 0 e) in
-    record { sound = sound h out at start piece p; hops = fragment-hops h out at start piece p }
-good h reads e z =
-    let p = passed-reader (h .state) (length (h .store)) (eqb-true (gateOf h reads) 0 e) in
-    record { sound = begins-quiet h (p .store) (p .fit); hops = none }
+    of-hops (sound h out at start piece p) (fragment-hops h out at start piece p)
+good h (reads r) e z =
+    let p = passed-reader (h .state) (length (h .store)) (eqb-true (gateOf h (reads r)) 0 e) in
+    of-hops (begins-quiet h (p .store) (p .fit)) stop

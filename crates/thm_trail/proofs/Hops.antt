@@ -71,14 +71,39 @@ pub data Hops : World → List Pass → Type 0 where
   none : {w : World} → Hops w []
   more : {w : World} {p : Pass} {ps : List Pass} → Hop w p → Hops (p .to) ps → Hops w (p ∷ ps)
 
-onwards-hops : (n : ℕ) (w : World) (at : Micros) → at .0 ≤ latest → Hops w (onwards n w at)
+-- ---- hops at one time
+
+-- where a hop may end a step, it is at this time
+abbrev pub At : (at : Micros) {w : World} {p : Pass} → Hop w p → Type 0
+At at (ended w t st n) = t ≡ at
+At at (began w t l g) = t ≡ at
+At at (meets w handle) = Unit {0}
+At at (parts w) = Unit {0}
+At at (still w g s) = Unit {0}
+At at (acted w t channel n o s) = t ≡ at
+
+abbrev pub AllAt : (at : Micros) {w : World} {ps : List Pass} → Hops w ps → Type 0
+AllAt at none = Unit {0}
+AllAt at (more x xs) = At at x × AllAt at xs
+
+pub record HopsAt (at : Micros) (w : World) (ps : List Pass) : Type 0 where
+  pub hops : Hops w ps
+  pub times : AllAt at hops
+
+pub stop : {at : Micros} {w : World} → HopsAt at w []
+stop = record { hops = none; times = tt }
+
+pub hop : {at : Micros} {w : World} {p : Pass} {ps : List Pass} (x : Hop w p) → At at x → HopsAt at (p .to) ps → HopsAt at w (p ∷ ps)
+hop x t xs = record { hops = more x (xs .hops); times = (t, xs .times) }
+
+onwards-hops : (n : ℕ) (w : World) (at : Micros) → at .0 ≤ latest → HopsAt at w (onwards n w at)
 unfolding onwards
-onwards-hops zero w at t = none
+onwards-hops zero w at t = stop
 onwards-hops (suc n) w at t = go (canGo (w .held .state)) refl (onwards-hops n (stepOnce w at) at t)
   where
-    go : (b : Bool) → canGo (w .held .state) ≡ b → Hops (stepOnce w at) (onwards n (stepOnce w at) at) → Hops w (pick b (pass (stepOnce w at) ∷ onwards n (stepOnce w at) at) [])
-    go true e ih = more (began w at t e) ih
-    go false e ih = none
+    go : (b : Bool) → canGo (w .held .state) ≡ b → HopsAt at (stepOnce w at) (onwards n (stepOnce w at) at) → HopsAt at w (pick b (pass (stepOnce w at) ∷ onwards n (stepOnce w at) at) [])
+    go true e ih = hop (began w at t e) refl ih
+    go false e ih = stop
 
-pub onward-hops : (w : World) (at : Micros) → at .0 ≤ latest → Hops w (onward w at)
+pub onward-hops : (w : World) (at : Micros) → at .0 ≤ latest → HopsAt at w (onward w at)
 onward-hops w at t = onwards-hops (w .held .state .queue .count) w at t

@@ -1,4 +1,3 @@
-pub mod Unlinked
 pub mod Ends
 pub mod Hops
 pub mod Goes

@@ -6,6 +6,7 @@ use lib.ListN.{length, replicate}
 use lib.Dec.{eqb}
 use Rattle.state_places.specs.Sizes.{outputSize}
 use Rattle.time.specs.declared.Micros.{Micros}
+use Rattle.state.specs.Fresh.{freshCentral}
 use Rattle.state.specs.declared.Address.{Address}
 use Rattle.state_rules.specs.Refusals.{accepted}
 use Rattle.state_rules.specs.Gate.{gate, gateQuiet, gateReader}
@@ -18,6 +19,12 @@ use Rattle.radio_rules.specs.Hearing as radio
 use Rattle.link_rules.specs.Fragment.{gateFragment}
 use Rattle.link_rules.specs.Link.{onFragment}
 
+-- a call that only reads, with its argument
+pub data Reader : Type 0 where
+  timerUs : Reader
+  connectedHandle : Reader
+  resultOf : ℕ → Reader
+
 -- a call, with all that its caller hands it but the state and the store; the output comes first where one is lent
 pub data Call : Type 0 where
   batch : List ℕ → Micros → Batch → List ℕ → Call
@@ -27,8 +34,8 @@ pub data Call : Type 0 where
   advertising : radio.Adv → Call
   scanResponse : Micros → Address → List ℕ → Call
   fragment : List ℕ → Micros → Bool → List ℕ → Call
-  -- `timer_us`, `connected_handle` and `result` change nothing
-  reads : Call
+  -- it changes nothing; what it answers: thm_readers/specs/Said.antt
+  reads : Reader → Call
 
 -- a call that lends no output has none to touch: this one stands for it
 unfoldable pub blank : List ℕ
@@ -43,7 +50,18 @@ outOf (disconnected at) = blank
 outOf (advertising v) = blank
 outOf (scanResponse at a d) = blank
 outOf (fragment out at start bytes) = out
-outOf reads = blank
+outOf (reads r) = blank
+
+-- the time that a call is handed (a reader has none, and gives no result)
+abbrev pub timeOf : Call → Micros
+timeOf (batch out at b values) = at
+timeOf (timer out at) = at
+timeOf (connected out handle at) = at
+timeOf (disconnected at) = at
+timeOf (advertising v) = v .at
+timeOf (scanResponse at a d) = at
+timeOf (fragment out at start bytes) = at
+timeOf (reads r) = record { 0 = 0 }
 
 -- a call that lends no output sends nothing
 abbrev pub ofQuiet : Quiet → Outcome
@@ -65,11 +83,15 @@ does h (disconnected at) = ofQuiet (onDisconnected (h .state) (h .store) at)
 does h (advertising v) = ofRadio (radio.advertised (h .state) (h .store) v)
 does h (scanResponse at a d) = ofRadio (radio.scanResponded (h .state) (h .store) at a d)
 does h (fragment out at start bytes) = onFragment (h .state) (h .store) out at start bytes
-does h reads = unread h
+does h (reads r) = unread h
 
 -- what one call leaves to the next
 abbrev pub left : Outcome → Held
 left x = record { state = x .state; store = x .store }
+
+-- nothing has been called yet: any bytes may be in the store
+abbrev pub fresh : List ℕ → Held
+fresh store = record { state = freshCentral; store = store }
 
 -- a sequence of calls
 abbrev pub run : Held → List Call → Held
@@ -85,7 +107,7 @@ gateOf h (disconnected at) = gateQuiet (h .state) (length (h .store)) at
 gateOf h (advertising v) = radio.refusal (h .state) (length (h .store)) v
 gateOf h (scanResponse at a d) = radio.responseRefusal (h .state) (length (h .store)) at (length d)
 gateOf h (fragment out at start bytes) = gateFragment (h .state) (length (h .store)) (length out) at start (length bytes)
-gateOf h reads = gateReader (h .state) (length (h .store))
+gateOf h (reads r) = gateReader (h .state) (length (h .store))
 
 -- a call is done, and not refused
 abbrev pub done? : Held → Call → Bool

@@ -6,6 +6,7 @@ use lib.Dec.{leb}
 use Rattle.bytes.specs.Choice.{pick}
 use Rattle.state_places.specs.Sizes.{mostSteps}
 use Rattle.lists.specs.Blocks.{Valued, valued}
+use Rattle.state.specs.Fresh.{noResult}
 use Rattle.state.specs.declared.Queued.{Queued}
 use Rattle.state.specs.declared.StepResult.{StepResult}
 use Rattle.script_rules.specs.World.{Held, World}
@@ -20,6 +21,10 @@ use Rattle.thm_trail.specs.Trail.{Pass, begins, goes}
 -- the results that are kept, the oldest first, each with the bytes of its value
 abbrev pub keptResults : Held → List (Valued StepResult)
 keptResults h = valued (λ x. x .len) resultPart (h .store) 0 (kept (h .state .results))
+
+-- what stands at a place where there is none
+abbrev pub noValued : Valued StepResult
+noValued = record { entry = noResult; value = [] }
 
 -- one past the number of the last of them, 0 where there is none
 unfoldable pub upTo : List (Valued StepResult) → ℕ
@@ -65,7 +70,7 @@ roomFor h (disconnected at) = []
 roomFor h (advertising v) = []
 roomFor h (scanResponse at a d) = []
 roomFor h (fragment out at start bytes) = []
-roomFor h reads = []
+roomFor h (reads r) = []
 
 -- by a call: none where it is refused
 abbrev pub takesIn : Held → Call → List Queued

@@ -108,7 +108,7 @@ begins h (disconnected at) = outcome.begins (h .state) (h .store) blank
 begins h (advertising v) = outcome.begins (h .state) (h .store) blank
 begins h (scanResponse at a d) = outcome.begins (h .state) (h .store) blank
 begins h (fragment out at start bytes) = outcome.begins (h .state) (h .store) out
-begins h reads = outcome.begins (h .state) (h .store) blank
+begins h (reads r) = outcome.begins (h .state) (h .store) blank
 
 -- the worlds that it passes through
 abbrev pub goes : Held → Call → List Pass
@@ -120,4 +120,4 @@ goes h (advertising v) = pass (onHeld (begins h (advertising v)) (let x = radio.
 goes h (scanResponse at a d) =
     pass (onHeld (begins h (scanResponse at a d)) (let x = radio.scanResponded (h .state) (h .store) at a d in record { state = x .state; store = x .store })) ∷ []
 goes h (fragment out at start bytes) = fragmentTrail (begins h (fragment out at start bytes)) at start bytes
-goes h reads = []
+goes h (reads r) = []

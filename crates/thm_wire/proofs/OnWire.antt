@@ -10,12 +10,12 @@ use Rattle.bytes.specs.Choice.{pick}
 use Rattle.script_rules.specs.World.{Held, World}
 use Rattle.script_rules.specs.Outcome.{Outcome, done, unsent}
 use Rattle.script_rules.specs.Sound.{Sound}
-use Rattle.thm_trail.specs.Calls.{Call, batch, timer, connected, disconnected, advertising, scanResponse, fragment, reads, outOf, does, run, done?}
+use Rattle.thm_trail.specs.Calls.{Call, batch, timer, connected, disconnected, advertising, scanResponse, fragment, reads, outOf, does, fresh, run, done?}
 use Rattle.thm_trail.specs.Trail.{final, begins, goes}
 use Rattle.thm_trail.proofs.Ends.{refusedOf, does-law}
 use Rattle.thm_trail.proofs.Hops.{Sizes}
 use Rattle.thm_trail.proofs.Goes.{good}
-use Rattle.thm_accounting.proofs.Accounting.{fresh, books}
+use Rattle.thm_accounting.proofs.Accounting.{books}
 use Rattle.thm_wire.specs.Wire.{Sent, parse, framesOf, wire, Within, sentAlong, sentBy, mostFrames, OnWire}
 use Rattle.thm_wire.proofs.Bytes.{parse-wire}
 use Rattle.thm_wire.proofs.Wired.{Wired, wired-hops}
@@ -30,7 +30,7 @@ wired-begins h (disconnected at) s = record { sound = s; frames = refl; bytes = 
 wired-begins h (advertising v) s = record { sound = s; frames = refl; bytes = refl; out = refl; within = tt; known = tt }
 wired-begins h (scanResponse at a d) s = record { sound = s; frames = refl; bytes = refl; out = refl; within = tt; known = tt }
 wired-begins h (fragment out at start bytes) s = record { sound = s; frames = refl; bytes = refl; out = refl; within = tt; known = tt }
-wired-begins h reads s = record { sound = s; frames = refl; bytes = refl; out = refl; within = tt; known = tt }
+wired-begins h (reads r) s = record { sound = s; frames = refl; bytes = refl; out = refl; within = tt; known = tt }
 
 -- ---- one call
 
@@ -66,7 +66,7 @@ refused-sent h (disconnected at) = refl
 refused-sent h (advertising v) = refl
 refused-sent h (scanResponse at a d) = refl
 refused-sent h (fragment out at start bytes) = refl
-refused-sent h reads = refl
+refused-sent h (reads r) = refl
 
 refused-out : (h : Held) (c : Call) → refusedOf h c .out ≡ outOf c
 refused-out h (batch out at b values) = refl
@@ -76,7 +76,7 @@ refused-out h (disconnected at) = refl
 refused-out h (advertising v) = refl
 refused-out h (scanResponse at a d) = refl
 refused-out h (fragment out at start bytes) = refl
-refused-out h reads = refl
+refused-out h (reads r) = refl
 
 silent : (o : List ℕ) (x : Outcome) → x .sent ≡ unsent → x .out ≡ o → Tells o [] x
 silent o x e f =

@@ -34,9 +34,8 @@ use Rattle.script_rules.specs.Script.{advances, advance}
 use Rattle.script_rules.specs.Outcome.{Outcome, done, refused, unsent}
 use Rattle.script_rules.specs.Batch.{batchFits, countersFit, gateBatch, pushSteps}
 use Rattle.script_rules.specs.Events.{linked, connect, onConnected}
-use Rattle.thm_trail.specs.Calls.{Call, batch, connected, timer, does, left, run, done?}
+use Rattle.thm_trail.specs.Calls.{Call, batch, connected, timer, does, left, fresh, run, done?}
 use Rattle.thm_trail.specs.Trail.{onwards, begins, goes}
-use Rattle.thm_accounting.proofs.Accounting.{fresh}
 use Rattle.thm_wire.specs.Wire.{Frame, parse, asSent, sentAlong, sentBy}
 
 abbrev pub at : ℕ → Micros

@@ -3,7 +3,7 @@ use mir.Syntax.{w16}
 use contract.Running.{givenOf, tables, tablesOf}
 use denote.Triple.Spec.{tripleOf}
 use denote.Triple.Table.{entered, cited}
-use Rattle.link_record.specs.Record.{opened}
+use Rattle.link_record.specs.Record.{newLink}
 use Rattle.link_record_laws.proofs.Data.{uint}
 use Rattle.link_record.proofs.LendsField.{lends-field}
 use Rattle.link_record.proofs.Rows.{bearer-link}
@@ -20,6 +20,6 @@ unfolding code.routine tablesOf
 opened-spec 𝓤 H 𝓜 𝓖 𝓡 =
     entered 𝓤 H (tripleOf 𝓤 H (𝓖 .A) f.signature (f.spec 𝓤 H (𝓖 .A) (𝓜 .mem) (𝓡 .run)))
     (tables 𝓤 H 𝓜 𝓡 code.env .C) (tables 𝓤 H 𝓜 𝓡 code.env .Λ) name code.function (code.unfolded 𝓤 H 𝓜 𝓡)
-    (lends-field bearer-link (uint w16) g-def.name opened 𝓤 H (𝓖 .A) (givenOf 𝓤 H 𝓜 𝓖) (tablesOf 𝓤 H 𝓜 (tables 𝓤 H 𝓜 𝓡 code.env))
+    (lends-field bearer-link (uint w16) g-def.name (λ l. newLink) 𝓤 H (𝓖 .A) (givenOf 𝓤 H 𝓜 𝓖) (tablesOf 𝓤 H 𝓜 (tables 𝓤 H 𝓜 𝓡 code.env))
     (cited 𝓤 H (tripleOf 𝓤 H (𝓖 .A) g.signature (g.spec 𝓤 H (𝓖 .A) (𝓜 .mem) (𝓡 .run))) 𝓜 𝓡 code.env g-def.name g-def.routine code.calls-link-record·open
     (g-thm.met 𝓤 H 𝓜 𝓖 𝓡)))

@@ -1,7 +1,7 @@
 use mathlib.Core.Path.{_≡_, refl, sym, _∙_}
 use mathlib.Core.List.{[]}
 use Rattle.script_rules.specs.Sound.{Whole}
-use Rattle.script_rules.specs.Script.{advanceUnlinked}
+use Rattle.script_rules.specs.Unlinked.{advanceUnlinked}
 use Rattle.script_rules.proofs.AdvanceLaws.{again-alone, done-alone}
 use Rattle.state_core.specs.Reading.{held}
 use Rattle.script_run.proofs.advance_unlinked.Statement.{statement}

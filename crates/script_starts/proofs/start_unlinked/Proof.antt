@@ -4,7 +4,7 @@ use Rattle.script_starts.proofs.start_unlinked.Statement.{statement}
 use Rattle.script_starts.proofs.start_unlinked.Tie as tie
 use Rattle.script_starts.proofs.start_unlinked.Reads as reads
 use Rattle.script_starts.proofs.start_unlinked.Lts as lts
-use Rattle.script_starts.proofs.alone_with.Reads as alone-with-reads
+use Rattle.script_alone.proofs.alone_with.Reads as alone-with-reads
 use Rattle.script_turns.proofs.end.Reads as end-reads
 use Rattle.script_turns.proofs.wait_for.Reads as wait-for-reads
 

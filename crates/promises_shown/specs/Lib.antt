@@ -1,0 +1,9 @@
+pub mod Opened
+pub mod Sequences
+pub mod Refusals
+pub mod Full
+pub mod Known
+pub mod Logged
+pub mod Reading
+pub mod Untrue
+pub mod UntrueToo

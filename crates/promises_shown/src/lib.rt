@@ -1,0 +1,1 @@
+// Lists of calls beside the promises, computed.

@@ -1,0 +1,1 @@
+// What the readers say, over every sequence of calls: theorems, no code.
