@@ -25,7 +25,7 @@
  *     different states may run in different threads at the same time;
  *   - needs the state, the store and every buffer to be apart: none may overlap another;
  *   - takes NULL for a buffer of length 0, and for nothing else;
- *   - is proved equal to a definition (docs/PROMISES.md). The static functions in this file are plain C
+ *   - is proved equal to a definition (docs/TRACEABILITY.md). The static functions in this file are plain C
  *     around the proved ones: they turn numbers into structs, and tests/c tries them.
  *
  * Any bytes may be handed in as a state: one that is not fit (a count, a length or a number out of its
@@ -45,17 +45,17 @@ extern "C" {
 #endif
 
 #define BARLEYROPE_VERSION_MAJOR 1
-#define BARLEYROPE_VERSION_MINOR 0
-#define BARLEYROPE_VERSION "1.0"
+#define BARLEYROPE_VERSION_MINOR 1
+#define BARLEYROPE_VERSION "1.1"
 
 /* The store has exactly this size; the output has at least this one. */
 #define BARLEYROPE_STORE_SIZE 43631
 #define BARLEYROPE_OUTPUT_SIZE 16315
 
-#define BARLEYROPE_CORE_WORDS 34
-#define BARLEYROPE_TABLE_WORDS 1056
+#define BARLEYROPE_CORE_WORDS 35
+#define BARLEYROPE_TABLE_WORDS 1152
 
-/* 8,720 bytes. All zero is a fresh state: nothing queued, kept, heard or linked. */
+/* 9,496 bytes. All zero is a fresh state: nothing queued, kept, heard or linked. */
 typedef struct barleyrope_state {
     uint64_t core[BARLEYROPE_CORE_WORDS];
     uint64_t tables[BARLEYROPE_TABLE_WORDS];
@@ -69,7 +69,7 @@ enum {
     BARLEYROPE_WRONG_SIZE = 2,   /* the store is not of its size, or the output is too short */
     BARLEYROPE_LATE_TIME = 3,    /* the time is above 2^62 microseconds */
     BARLEYROPE_BAD_BATCH = 4,    /* over 64 steps; an MTU over 247; a value over 244 bytes or outside values */
-    BARLEYROPE_COUNTER_FULL = 5, /* a counter is at its end: begin a new state */
+    BARLEYROPE_COUNTER_FULL = 5, /* no more steps, notifications or links can be counted: begin a new state */
     BARLEYROPE_LONG_DATA = 6,    /* advertising or scan response data over 31 bytes */
     BARLEYROPE_LONG_FRAME = 7,   /* a frame over 251 bytes; what was held of it is dropped */
     BARLEYROPE_KEYS_FULL = 8     /* a Scan has asked 128 advertisers already */
@@ -84,7 +84,7 @@ static inline const char *barleyrope_refusal_text(int refusal)
     case BARLEYROPE_WRONG_SIZE: return "the store is not 43631 bytes, or the output is under 16315";
     case BARLEYROPE_LATE_TIME: return "the time is above 2^62 microseconds";
     case BARLEYROPE_BAD_BATCH: return "over 64 steps, an MTU over 247, or a value too long or outside values";
-    case BARLEYROPE_COUNTER_FULL: return "a counter is at its end";
+    case BARLEYROPE_COUNTER_FULL: return "no more steps, notifications or links can be counted";
     case BARLEYROPE_LONG_DATA: return "advertising or scan response data over 31 bytes";
     case BARLEYROPE_LONG_FRAME: return "a frame over 251 bytes; the bytes held of it are dropped";
     case BARLEYROPE_KEYS_FULL: return "the running scan has asked 128 advertisers already";
@@ -512,11 +512,12 @@ static inline barleyrope_step barleyrope_read(barleyrope_uuid characteristic)
  *
  * What counts is every kept notification (the newest 32) that came after the last wait passed. IT
  * MAY BE OLD: one that came before this step began counts, even one of an earlier link. The result
- * has no value, and its time is when the wait ended, not when the notification came. A read behind
- * the wait gives a value that is the head's own answer on this link (docs/COLLECTOR.md).
+ * has no value, and its time is when the wait ended, not when the notification came. A wait with an
+ * age (below) counts no old ones; a read behind the wait gives a value that is the head's own answer
+ * on this link (docs/COLLECTOR.md).
  *
  * Ends OK, TIMEOUT, or NOT_FOUND if the characteristic was not discovered. Passing uses up every
- * notification heard so far, of other characteristics too.
+ * notification heard so far, of other characteristics too; a wait that does not pass uses up none.
  */
 static inline barleyrope_step barleyrope_wait_notification(barleyrope_uuid characteristic, uint32_t within_ms,
                                                            size_t contains_at, size_t contains_len)
@@ -525,6 +526,31 @@ static inline barleyrope_step barleyrope_wait_notification(barleyrope_uuid chara
         barleyrope_step_of(BARLEYROPE_STEP_WAIT_NOTIFICATION, false, within_ms, characteristic);
     step.value_at = contains_at;
     step.value_len = contains_len;
+    return step;
+}
+
+/*
+ * The same wait with a greatest age. Of the notifications that would count, only those do that
+ *   - came on the present link, not on an earlier one;
+ *   - came at most age_ms before now, to the microsecond, and not after now (a clock may run back).
+ * The others are skipped; the values of those that count are joined, as above. A notification came at
+ * the now_us of the barleyrope_on_fragment that completed it. Now is the now_us of the call that looks:
+ * the one that begins the step, and each barleyrope_on_fragment that brings a notification, of whatever
+ * characteristic. The present link is the one of that call, too.
+ *
+ *   age_ms   any number; with 0, only what came at this very microsecond counts
+ *
+ * Ends as the wait above does. Passing, too, uses up every notification heard so far: those that were
+ * too old, and those of other characteristics. barleyrope_passed_on tells which one it passed on.
+ */
+static inline barleyrope_step barleyrope_wait_notification_aged(barleyrope_uuid characteristic,
+                                                                uint32_t within_ms, size_t contains_at,
+                                                                size_t contains_len, uint32_t age_ms)
+{
+    barleyrope_step step = barleyrope_wait_notification(characteristic, within_ms, contains_at, contains_len);
+    step.flag = 1; /* an age is there: in two halves, where a connect has its latency and timeout */
+    step.latency = age_ms & 0xFFFF;
+    step.timeout = age_ms >> 16;
     return step;
 }
 
@@ -564,53 +590,57 @@ static inline barleyrope_step barleyrope_capture_secrets(bool secrets)
 
 /* told: refusal, frames, bytes, request, interval, latency, timeout, reason.
  * steps_len is in words, BARLEYROPE_STEP_WORDS times count. */
-void barleyrope_push_steps_words(uint64_t core[34], uint64_t tables[1056], uint8_t *store, size_t store_len,
+void barleyrope_push_steps_words(uint64_t core[35], uint64_t tables[1152], uint8_t *store, size_t store_len,
                                  uint8_t *out, size_t out_len, uint64_t at, const uint64_t *steps,
                                  size_t steps_len, size_t count, const uint8_t *values, size_t values_len,
                                  uint64_t told[8]);
-void barleyrope_on_timer_words(uint64_t core[34], uint64_t tables[1056], uint8_t *store, size_t store_len,
+void barleyrope_on_timer_words(uint64_t core[35], uint64_t tables[1152], uint8_t *store, size_t store_len,
                                uint8_t *out, size_t out_len, uint64_t at, uint64_t told[8]);
-void barleyrope_on_connected_words(uint64_t core[34], uint64_t tables[1056], uint8_t *store, size_t store_len,
+void barleyrope_on_connected_words(uint64_t core[35], uint64_t tables[1152], uint8_t *store, size_t store_len,
                                    uint8_t *out, size_t out_len, uint16_t handle, uint64_t at,
                                    uint64_t told[8]);
-void barleyrope_on_fragment_words(uint64_t core[34], uint64_t tables[1056], uint8_t *store, size_t store_len,
+void barleyrope_on_fragment_words(uint64_t core[35], uint64_t tables[1152], uint8_t *store, size_t store_len,
                                   uint8_t *out, size_t out_len, uint64_t at, bool start,
                                   const uint8_t *fragment, size_t fragment_len, uint64_t told[8]);
 
 /* told: refusal. */
-void barleyrope_on_disconnected_words(uint64_t core[34], uint64_t tables[1056], uint8_t *store,
+void barleyrope_on_disconnected_words(uint64_t core[35], uint64_t tables[1152], uint8_t *store,
                                       size_t store_len, uint64_t at, uint64_t told[8]);
-void barleyrope_on_scan_response_words(uint64_t core[34], uint64_t tables[1056], uint8_t *store,
+void barleyrope_on_scan_response_words(uint64_t core[35], uint64_t tables[1152], uint8_t *store,
                                        size_t store_len, uint64_t at, uint64_t address, const uint8_t *data,
                                        size_t data_len, uint64_t told[8]);
 
 /* told: refusal, action, interval, latency, timeout. */
-void barleyrope_on_advertising_words(uint64_t core[34], uint64_t tables[1056], uint8_t *store,
+void barleyrope_on_advertising_words(uint64_t core[35], uint64_t tables[1152], uint8_t *store,
                                      size_t store_len, uint64_t at, uint8_t channel, uint8_t pdu,
                                      uint64_t address, const uint8_t *data, size_t data_len, bool to_central,
                                      uint64_t told[8]);
 
 /* told: refusal, 1 if there is one, the deadline; or the handle. */
-void barleyrope_timer_us_words(const uint64_t core[34], const uint64_t tables[1056], const uint8_t *store,
+void barleyrope_timer_us_words(const uint64_t core[35], const uint64_t tables[1152], const uint8_t *store,
                                size_t store_len, uint64_t told[8]);
-void barleyrope_connected_handle_words(const uint64_t core[34], const uint64_t tables[1056],
+void barleyrope_connected_handle_words(const uint64_t core[35], const uint64_t tables[1152],
                                        const uint8_t *store, size_t store_len, uint64_t told[8]);
 
 /* told: refusal, 1 if it is kept, time, status, ATT error code, place and length in the store. */
-void barleyrope_result_words(const uint64_t core[34], const uint64_t tables[1056], const uint8_t *store,
+void barleyrope_result_words(const uint64_t core[35], const uint64_t tables[1152], const uint8_t *store,
                              size_t store_len, uint32_t index, uint64_t told[8]);
+
+/* told: refusal, 1 if there is one, time, link, handle, 1 for an indication, place and length in the store. */
+void barleyrope_passed_on_words(const uint64_t core[35], const uint64_t tables[1152], const uint8_t *store,
+                                size_t store_len, uint32_t index, uint64_t told[8]);
 
 /* told: refusal, 1 if it is kept, time, channel, PDU type, address, place and length of the data, 1 if
  * there is a scan response, its place and length. */
-void barleyrope_report_words(const uint64_t core[34], const uint64_t tables[1056], const uint8_t *store,
+void barleyrope_report_words(const uint64_t core[35], const uint64_t tables[1152], const uint8_t *store,
                              size_t store_len, size_t i, uint64_t told[12]);
 
 /* told: refusal, 1 if they are there, place and length in the store. */
-void barleyrope_report_data_words(const uint64_t core[34], const uint64_t tables[1056], const uint8_t *store,
+void barleyrope_report_data_words(const uint64_t core[35], const uint64_t tables[1152], const uint8_t *store,
                                   size_t store_len, size_t i, uint64_t told[8]);
-void barleyrope_report_response_words(const uint64_t core[34], const uint64_t tables[1056],
+void barleyrope_report_response_words(const uint64_t core[35], const uint64_t tables[1152],
                                       const uint8_t *store, size_t store_len, size_t i, uint64_t told[8]);
-void barleyrope_report_body_words(const uint64_t core[34], const uint64_t tables[1056], const uint8_t *store,
+void barleyrope_report_body_words(const uint64_t core[35], const uint64_t tables[1152], const uint8_t *store,
                                   size_t store_len, size_t i, uint64_t low, uint64_t high, uint64_t told[8]);
 
 /* ---- calls: something happened --------------------------------------------------------------- */
@@ -717,11 +747,12 @@ static inline barleyrope_answer barleyrope_on_timer(barleyrope_state *state, uin
 }
 
 /*
- * A link came up. It takes the place of one that was there. A running connect ends OK.
+ * A link came up. It takes the place of one that was there. A running connect ends OK. Links are counted
+ * over the life of a state, and each has a number, the first 1 (barleyrope_links_counted).
  *
  *   handle   the controller's handle of the link; kept for barleyrope_get_link
  *
- * Refusals: 1, 2, 3.
+ * Refusals: 1, 2, 3; 5 after 2^62 links: begin a new state.
  */
 static inline barleyrope_answer barleyrope_on_connected(barleyrope_state *state, uint8_t *store,
                                                         size_t store_size, uint8_t *out, size_t out_size,
@@ -932,6 +963,46 @@ static inline barleyrope_result barleyrope_get_result(const barleyrope_state *st
     return result;
 }
 
+/* What an aged wait passed on. */
+typedef struct barleyrope_notification {
+    int refusal;
+    bool is_kept;         /* false: see below; the rest is 0 then */
+    uint64_t at_us;       /* when it came: the time of the call that completed it */
+    uint64_t link;        /* the number of the link that heard it (barleyrope_links_counted) */
+    uint16_t handle;      /* of the characteristic's value */
+    bool is_indication;   /* otherwise a notification */
+    const uint8_t *value; /* value_len bytes */
+    size_t value_len;
+} barleyrope_notification;
+
+/*
+ * The notification that an aged wait passed on, by the number of the step: of those that counted when it
+ * ended OK, the newest. Where several were joined, the others came before it. Time, link and value are the
+ * notification's own.
+ *
+ * is_kept is false
+ *   - if no result of that number is kept (barleyrope_get_result);
+ *   - if it is not the result of an aged wait that ended OK;
+ *   - if the notification has been dropped since: the newest 32 are kept. No other one is told in its place.
+ * Ask right after the call that ended the wait: then it is still there.
+ */
+static inline barleyrope_notification barleyrope_passed_on(const barleyrope_state *state, const uint8_t *store,
+                                                           size_t store_size, uint32_t index)
+{
+    uint64_t told[8];
+    barleyrope_notification notification;
+    barleyrope_passed_on_words(state->core, state->tables, store, store_size, index, told);
+    notification.refusal = (int)told[0];
+    notification.is_kept = told[1] == 1;
+    notification.at_us = told[2];
+    notification.link = told[3];
+    notification.handle = (uint16_t)told[4];
+    notification.is_indication = told[5] == 1;
+    notification.value = barleyrope_place(store, notification.is_kept, told[6]);
+    notification.value_len = (size_t)told[7];
+    return notification;
+}
+
 /*
  * How many steps have ended: results 0 to this - 1 were given, the last 64 of them are kept. With it no
  * result is missed:
@@ -939,7 +1010,7 @@ static inline barleyrope_result barleyrope_get_result(const barleyrope_state *st
  *     for (; seen < barleyrope_steps_ended(&state); seen++)
  *         your_result(seen, barleyrope_get_result(&state, store, sizeof store, seen));
  *
- * This and the next three read single words of the state; of an unfit state they say nothing.
+ * This and the next four read single words of the state; of an unfit state they say nothing.
  */
 static inline uint32_t barleyrope_steps_ended(const barleyrope_state *state)
 {
@@ -962,6 +1033,12 @@ static inline uint32_t barleyrope_next_index(const barleyrope_state *state)
 static inline uint64_t barleyrope_dropped_steps(const barleyrope_state *state)
 {
     return state->core[24];
+}
+
+/* How many links there were. It is the number of the present link; of the last one, where there is none. */
+static inline uint64_t barleyrope_links_counted(const barleyrope_state *state)
+{
+    return state->core[34];
 }
 
 /* What was heard of an advertiser. */

@@ -1,10 +1,10 @@
 //! Runs sequences of calls on the oracle and on the port through its C interface, in one process, and compares their answers.
 //!
-//!   compare_c [seed N] [count N] [total N] [calls N] [dumps N] [groups script,radio,link] [save FOLDER] [refusals] [few] [first]
+//!   compare_c [seed N] [count N] [total N] [calls N] [dumps N] [groups script,radio,link] [save FOLDER] [refusals] [aged] [few] [first]
 //!
 //! The words are those of `compare`, whose generator, gate and answers it shares. Every answer is compared, with the bytes sent;
-//! at a dump the state that the words say, with the Rust's own, and the four views of one report; at a refusal, that nothing lent
-//! has changed.
+//! at a dump the state that the words say, with the Rust's own, the four views of one report and the notification that one result
+//! names; at a refusal, that nothing lent has changed.
 
 #[path = "compare/asked.rs"]
 mod asked;
@@ -14,6 +14,8 @@ mod c_port;
 mod exports;
 #[path = "compare/options.rs"]
 mod options;
+#[path = "compare/passed.rs"]
+mod passed;
 mod port {
     pub type Number = u128;
 }
@@ -44,8 +46,8 @@ use sequence::counts::Counts;
 use sequence::{Witness, make};
 use std::process::ExitCode;
 use std::time::{Duration, Instant};
-use trace::Call;
 use trace::answer::{self, Answer};
+use trace::{Call, one};
 use verdict::{Difference, Shown};
 use views::{CASES, Met};
 
@@ -65,17 +67,31 @@ struct Beside {
     differs: Option<(usize, Vec<u8>, Vec<u8>)>,
 }
 
+/// The line of a call; behind a dump's that of `links`, which it is compared with too.
+fn shown(call: &Call, line: impl Fn(&Call) -> Vec<u8>) -> Vec<u8> {
+    let mut text = line(call);
+    if *call == Call::Dump && one::IS_THERE {
+        text.push(b' ');
+        text.extend(line(&Call::Links));
+    }
+    text
+}
+
 impl Beside {
+    /// The views at a dump: of one report and of one result, those behind the last too; each has its turn.
+    fn viewed(&mut self, left: &Central) -> Answer {
+        let (turn, memory) = (self.equal as usize, &self.port.memory);
+        let i = turn % (left.reports.len() + 1);
+        let index = left.results.get(turn % (left.results.len() + 1)).map_or(left.next_index, |r| r.index);
+        let wrong = views::fault(memory, i, left.reports.get(i), &mut self.met);
+        wrong.or_else(|| passed::fault(memory, index, left)).map_or(Answer::State, Answer::Other)
+    }
+
     /// The port's answer to a call that the oracle has made.
     fn got(&mut self, call: &Call, answer: &Answer, left: &Central) -> Answer {
         match answer {
             Answer::Refused(_) => self.port.refusal(call),
-            Answer::State => {
-                // One report, the place behind the last too: each has its turn.
-                let i = self.equal as usize % (left.reports.len() + 1);
-                let wrong = views::fault(&self.port.memory, i, left.reports.get(i), &mut self.met);
-                wrong.map_or(Answer::State, Answer::Other)
-            }
+            Answer::State if *call == Call::Dump => self.viewed(left),
             _ => self.port.answer(call),
         }
     }
@@ -95,7 +111,8 @@ impl Witness for Beside {
         if self.is_equal(answer, &got, left) {
             self.equal += 1;
         } else {
-            self.differs = Some((self.at, answer::line(call, answer, left), self.port.line(call, &got)));
+            let wanted = shown(call, |c| answer::line(c, answer, left));
+            self.differs = Some((self.at, wanted, shown(call, |c| self.port.line(c, &got))));
         }
         self.at += 1;
     }

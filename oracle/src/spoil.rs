@@ -19,7 +19,7 @@ use sequence::rng::Rng;
 use sequence::{Groups, Plan, record};
 use std::io::{Read, Write};
 use std::process::{Command, ExitCode, Stdio};
-use trace::{HEADER, MOST_FRAGMENT, MOST_STEPS, MOST_VALUES, NAMES, STEP};
+use trace::{HEADER, MOST_FRAGMENT, MOST_STEPS, MOST_VALUES, NAMES, STEP, TAGS, one};
 
 /// How each line begins, and the status that a player ends with if it has one to give; else that is 0.
 fn wanted(bytes: &[u8]) -> (Vec<&'static str>, i32) {
@@ -84,8 +84,8 @@ fn step(kind: u8, flag: u8, random: u8) -> [u8; STEP] {
 
 /// The borders of the format.
 fn borders() -> Vec<Vec<u8>> {
-    let mut all = vec![Vec::new(), vec![0], header(0, 0)[..4].to_vec(), header(12, 0), header(255, u32::MAX)];
-    for tag in 0..12 {
+    let mut all = vec![Vec::new(), vec![0], header(0, 0)[..4].to_vec(), header(TAGS as u8, 0), header(255, u32::MAX)];
+    for tag in 0..TAGS as u8 {
         for len in [0, 1, 3, 4, 5, 7, 8, 9, 10, 11, 12, 14, 15, 17, 18, 270, 271, 273, 274] {
             all.push(filled(tag, len));
         }
@@ -136,7 +136,7 @@ fn spoil(rng: &mut Rng, mut bytes: Vec<u8>) -> Vec<u8> {
             bytes = rng.bytes(n);
             // A tag that there is, so that more is read than that.
             if let Some(b) = bytes.first_mut() {
-                *b %= 12;
+                *b %= TAGS as u8;
             }
             bytes.iter_mut().skip(2).take(3).for_each(|b| *b = 0);
         }
@@ -153,7 +153,7 @@ fn main() -> ExitCode {
     let number = |i: usize, or: u64| words.get(i).and_then(|w| w.parse().ok()).unwrap_or(or);
     let (seed, count) = (number(1, 1), number(2, 300));
     let groups = Groups { radio: true, link: true };
-    let plan = Plan { seed, groups, refusals: true, calls: 60, dumps: 2 };
+    let plan = Plan { seed, groups, refusals: true, aged: one::IS_THERE, calls: 60, dumps: 2 };
     let (mut rng, mut counts) = (Rng::new(seed, 1 << 40), Counts::default());
     let mut all = borders();
     for i in 0..count {

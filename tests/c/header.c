@@ -121,7 +121,7 @@ static bool has_words(barleyrope_step step, const uint64_t words[12])
 static void steps(void)
 {
     const barleyrope_uuid u = barleyrope_uuid_of(5, 4); /* high, low */
-    const uint64_t words[15][12] = {
+    const uint64_t words[18][12] = {
         {0, 0, 9, 0, 0, 0, 0, 0, 0, 0, 0, 0},           {1, 0, 9, 0, 0, 0, 0, 2, 3, 1, 0, 0},
         {1, 0, 9, 0, (UINT64_C(1) << 48) + 6, 0, 1, 2, 3, 1, 0, 0}, {1, 0, 9, 0, 4, 5, 2, 2, 3, 1, 0, 0},
         {2, 0, 0, 185, 0, 0, 0, 0, 0, 0, 0, 0},         {3, 0, 0, 0, 0, 0, 0, 0, 0, 0, 0, 0},
@@ -129,7 +129,8 @@ static void steps(void)
         {6, 1, 0, 0, 4, 5, 0, 0, 0, 0, 7, 8},           {7, 0, 0, 0, 4, 5, 0, 0, 0, 0, 0, 0},
         {8, 0, 9, 0, 4, 5, 0, 0, 0, 0, 7, 8},           {9, 0, 9, 0, 0, 0, 0, 0, 0, 0, 0, 0},
         {10, 0, 0, 0, 0, 0, 0, 0, 0, 0, 0, 0},          {11, 1, 0, 0, 0, 0, 0, 0, 0, 0, 0, 0},
-        {12, 1, 0, 0, 0, 0, 0, 0, 0, 0, 0, 0}};
+        {12, 1, 0, 0, 0, 0, 0, 0, 0, 0, 0, 0},          {8, 1, 9, 0, 4, 5, 0, 0x5678, 0x1234, 0, 7, 8},
+        {8, 1, 9, 0, 4, 5, 0, 0, 0, 0, 7, 8},           {8, 1, 9, 0, 4, 5, 0, 0xFFFF, 0xFFFF, 0, 7, 8}};
     EXPECT(has_words(barleyrope_scan(9), words[0]));
     EXPECT(has_words(barleyrope_connect_any(1, 2, 3, 9), words[1]));
     EXPECT(has_words(barleyrope_connect_address(barleyrope_address_of(6, true), 1, 2, 3, 9), words[2]));
@@ -145,6 +146,9 @@ static void steps(void)
     EXPECT(has_words(barleyrope_disconnect(), words[12]));
     EXPECT(has_words(barleyrope_capture(true), words[13]));
     EXPECT(has_words(barleyrope_capture_secrets(true), words[14]));
+    EXPECT(has_words(barleyrope_wait_notification_aged(u, 9, 7, 8, 0x12345678), words[15]));
+    EXPECT(has_words(barleyrope_wait_notification_aged(u, 9, 7, 8, 0), words[16]));
+    EXPECT(has_words(barleyrope_wait_notification_aged(u, 9, 7, 8, UINT32_MAX), words[17]));
 }
 
 /* ---- calls: a short play, in which each wrapper says what happened ------------------------------ */
@@ -208,6 +212,111 @@ static void talks(void)
     EXPECT(barleyrope_steps_ended(&state) == 4 && barleyrope_dropped_steps(&state) == 0);
 }
 
+/* ---- waits with an age ---------------------------------------------------------------------------- */
+
+#define LEVEL barleyrope_short_uuid(0x2A19) /* its value stands at handle 3 */
+
+/* A step begins at a time; its number. */
+static uint32_t begins(uint64_t now_us, barleyrope_step step)
+{
+    uint32_t index = barleyrope_next_index(&state);
+    EXPECT(barleyrope_push_steps(LENT, now_us, &step, 1, NULL, 0).refusal == 0);
+    return index;
+}
+
+/* How a step ended, or -1. */
+static int ended(uint32_t index)
+{
+    barleyrope_result r = barleyrope_get_result(HELD, index);
+    return r.is_kept ? r.status : -1;
+}
+
+static void comes(uint64_t now_us, const uint8_t *frame, size_t size)
+{
+    EXPECT(barleyrope_on_fragment(LENT, now_us, true, frame, size).refusal == 0);
+}
+
+/* The head notifies a byte, or indicates it. */
+static void notifies(uint64_t now_us, uint8_t opcode, uint8_t value)
+{
+    uint8_t frame[] = {4, 0, 4, 0, 0, 3, 0, 0};
+    frame[4] = opcode, frame[7] = value;
+    comes(now_us, frame, sizeof frame);
+}
+
+static bool passed_on(uint32_t index, uint64_t at_us, uint64_t link, bool is_indication, uint8_t value)
+{
+    barleyrope_notification n = barleyrope_passed_on(HELD, index);
+    return n.refusal == 0 && n.is_kept && n.at_us == at_us && n.link == link && n.handle == 3 &&
+           n.is_indication == is_indication && n.value_len == 1 && n.value[0] == value;
+}
+
+static bool passed_on_nothing(uint32_t index)
+{
+    barleyrope_notification n = barleyrope_passed_on(HELD, index);
+    return n.refusal == 0 && !n.is_kept && n.at_us == 0 && n.link == 0 && n.handle == 0 && !n.is_indication &&
+           n.value == NULL && n.value_len == 0;
+}
+
+/* The second link; 180F and 2A19 are discovered. */
+static void discovers(void)
+{
+    static const uint8_t service[] = {8, 0, 4, 0, 0x11, 6, 1, 0, 0xFF, 0xFF, 0x0F, 0x18};
+    static const uint8_t characteristic[] = {9, 0, 4, 0, 0x09, 7, 2, 0, 0x12, 3, 0, 0x19, 0x2A};
+    static const uint8_t no_more[] = {5, 0, 4, 0, 0x01, 0x08, 3, 0, 0x0A}, no_descriptor[] = {5, 0, 4, 0, 0x01, 0x04, 4, 0, 0x0A};
+    uint32_t index;
+    EXPECT(barleyrope_links_counted(&state) == 1);
+    EXPECT(barleyrope_on_connected(LENT, 0x41, 150000).refusal == 0 && barleyrope_links_counted(&state) == 2);
+    index = begins(150000, barleyrope_discover_characteristics(barleyrope_short_uuid(0x180F)));
+    comes(160000, service, sizeof service);
+    comes(170000, characteristic, sizeof characteristic);
+    comes(180000, no_more, sizeof no_more);
+    comes(190000, no_descriptor, sizeof no_descriptor);
+    EXPECT(ended(index) == BARLEYROPE_OK);
+}
+
+/* What came at 200,000 us counts up to its age, to the microsecond; passing uses it up, not passing does not. */
+static void ages(void)
+{
+    uint32_t late, early, plain;
+    notifies(200000, 0x1B, 7);
+    late = begins(210001, barleyrope_wait_notification_aged(LEVEL, 1, 0, 0, 10));
+    EXPECT(ended(late) == -1 && barleyrope_on_timer(LENT, 211001).refusal == 0);
+    EXPECT(ended(late) == BARLEYROPE_TIMEOUT && passed_on_nothing(late));
+    early = begins(199999, barleyrope_wait_notification_aged(LEVEL, 0, 0, 0, UINT32_MAX)); /* the clock ran back */
+    EXPECT(ended(early) == -1 && barleyrope_on_timer(LENT, 199999).refusal == 0 && ended(early) == BARLEYROPE_TIMEOUT);
+    late = begins(210000, barleyrope_wait_notification_aged(LEVEL, 1, 0, 0, 10));
+    EXPECT(ended(late) == BARLEYROPE_OK && passed_on(late, 200000, 2, false, 7));
+    plain = begins(220000, barleyrope_wait_notification(LEVEL, 1000, 0, 0));
+    EXPECT(ended(plain) == -1 && passed_on_nothing(plain));
+    notifies(230000, 0x1D, 8);
+    EXPECT(ended(plain) == BARLEYROPE_OK && passed_on_nothing(plain) && passed_on(late, 200000, 2, false, 7));
+    late = begins(240000, barleyrope_wait_notification_aged(LEVEL, 1000, 0, 0, 0));
+    notifies(250000, 0x1D, 9); /* with an age of 0, what comes now */
+    EXPECT(ended(late) == BARLEYROPE_OK && passed_on(late, 250000, 2, true, 9));
+}
+
+/* What an earlier link heard does not count, and what is dropped is told no more. */
+static void other_links(void)
+{
+    uint32_t index;
+    int i;
+    notifies(260000, 0x1B, 10);
+    EXPECT(barleyrope_on_disconnected(HELD, 270000) == 0 && barleyrope_links_counted(&state) == 2);
+    EXPECT(barleyrope_on_connected(LENT, 0x42, 280000).refusal == 0 && barleyrope_links_counted(&state) == 3);
+    index = begins(290000, barleyrope_wait_notification_aged(LEVEL, 1000, 0, 0, UINT32_MAX));
+    EXPECT(ended(index) == -1);
+    notifies(300000, 0x1B, 11);
+    EXPECT(ended(index) == BARLEYROPE_OK && passed_on(index, 300000, 3, false, 11));
+    for (i = 0; i < 31; i++)
+        notifies(310000, 0x1B, 12);
+    EXPECT(passed_on(index, 300000, 3, false, 11));
+    notifies(310000, 0x1B, 12);
+    EXPECT(ended(index) == BARLEYROPE_OK && passed_on_nothing(index));
+    EXPECT(passed_on_nothing(UINT32_MAX) && barleyrope_passed_on(&state, store, sizeof store - 1, index).refusal == BARLEYROPE_WRONG_SIZE);
+    EXPECT(barleyrope_on_disconnected(HELD, 320000) == 0);
+}
+
 static void refusals(void)
 {
     static uint8_t big[252];
@@ -233,6 +342,13 @@ static void refusals(void)
     EXPECT(barleyrope_push_steps(LENT, 0, many, BARLEYROPE_MAX_STEPS, NULL, 0).refusal == 0);
     EXPECT(barleyrope_steps_waiting(&state) == BARLEYROPE_MAX_STEPS && barleyrope_dropped_steps(&state) == 0);
     EXPECT(barleyrope_push_steps(LENT, 0, &wait, 1, NULL, 0).refusal == 0 && barleyrope_dropped_steps(&state) == 1);
+    /* the last link that can be counted; then one more than that */
+    state.core[34] = (UINT64_C(1) << 62) - 1;
+    EXPECT(barleyrope_on_connected(LENT, 1, 0).refusal == 0 && barleyrope_links_counted(&state) == UINT64_C(1) << 62);
+    EXPECT(barleyrope_on_connected(LENT, 1, 0).refusal == BARLEYROPE_COUNTER_FULL && barleyrope_on_timer(LENT, 0).refusal == 0);
+    state.core[34]++;
+    EXPECT(barleyrope_on_timer(LENT, 0).refusal == BARLEYROPE_UNFIT && barleyrope_passed_on(HELD, 0).refusal == BARLEYROPE_UNFIT);
+    state.core[34]--;
     state.core[27] = 65;
     EXPECT(barleyrope_on_timer(LENT, 0).refusal == BARLEYROPE_UNFIT && barleyrope_get_timer(HELD).refusal == BARLEYROPE_UNFIT);
 }
@@ -245,6 +361,9 @@ int main(void)
     steps();
     hears();
     talks();
+    discovers();
+    ages();
+    other_links();
     refusals();
     printf("%lu checks, %lu failed\n", checks, failures);
     return failures == 0 ? 0 : 1;

@@ -1,6 +1,8 @@
 /* Refusal 2 in every call and every view: a store one byte short, one byte long, or none, and an output one byte short, or none, in
  * the four calls that lend one. The same call is accepted with the right sizes and then changes what it is there to change; refused,
  * it tells 2 and nothing else, and every byte lent is as before. Refusal 1 comes before it, 3 and the others behind it.
+ * And the count of links: every call refuses one above 2^62, and a kept notification of a link that is not counted yet, by 1; a
+ * connected call refuses 2^62 by 5.
  *
  * The sanitizers see this file and not the archive: what is lent lies against a page that may not be touched.
  * Prints what was tried and ends with 0; or prints the failures and ends with 1. */
@@ -87,7 +89,10 @@ typedef struct lent {
 static const barleyrope_address head = {UINT64_C(0xC20000000001), true};
 static const uint8_t listing[] = {0x03, 0x03, 0x0F, 0x18};
 #define FAR_US UINT64_C(100000000) /* behind the scan's deadline */
-enum { PHASE = 4, HELD = 17 };     /* words of the core */
+#define MOST_LINKS (UINT64_C(1) << 62)
+enum { AGED = 2 };                         /* the number of the aged wait that passed */
+enum { PHASE = 4, HELD = 17, LINKS = 34 }; /* words of the core */
+enum { T_LINK = 1056 };                    /* of the tables: the link of the first notification */
 
 static void push_steps(const lent *l, uint64_t *told) {
     barleyrope_step steps[65];
@@ -143,6 +148,10 @@ static void result(const lent *l, uint64_t *told) {
     barleyrope_result_words(state.core, state.tables, l->store, l->store_size, 0, told);
 }
 
+static void passed_on(const lent *l, uint64_t *told) {
+    barleyrope_passed_on_words(state.core, state.tables, l->store, l->store_size, AGED, told);
+}
+
 static void report(const lent *l, uint64_t *told) {
     barleyrope_report_words(state.core, state.tables, l->store, l->store_size, 0, told);
 }
@@ -178,6 +187,7 @@ static const struct call {
     {"timer_us", timer_us, 8, false, true, 0},
     {"connected_handle", connected_handle, 8, false, true, 0},
     {"result", result, 8, false, true, 0},
+    {"passed_on", passed_on, 8, false, true, 0},
     {"report", report, 12, false, true, 0},
     {"report_data", report_data, 8, false, true, 0},
     {"report_response", report_response, 8, false, true, 0},
@@ -188,16 +198,13 @@ static const struct call {
 
 static unsigned long refused;
 
-/* Makes the call on the good state and hands back its refusal; with one, everything must be as it was. */
-static uint64_t made(const struct call *c, size_t store_size, size_t out_size, uint64_t at, bool wrong, bool fit) {
+/* Makes the call on the state as it stands and hands back its refusal; with one, everything must be as it was. */
+static uint64_t made_here(const struct call *c, size_t store_size, size_t out_size, uint64_t at, bool wrong) {
     uint64_t told[12];
     barleyrope_state before;
     lent l;
     size_t i, bytes = store_size < STORE_SIZE ? store_size : STORE_SIZE;
     bool same;
-    state = good.state;
-    if (!fit)
-        state.core[PHASE] = 3;
     before = state;
     l.store = lent_store(store_size), l.store_size = store_size;
     l.out = lent_output(out_size), l.out_size = out_size;
@@ -221,6 +228,40 @@ static uint64_t made(const struct call *c, size_t store_size, size_t out_size, u
         EXPECT(told[i] == 0);
     EXPECT(same);
     return told[0];
+}
+
+/* On the good state, or on one that is not fit. */
+static uint64_t made(const struct call *c, size_t store_size, size_t out_size, uint64_t at, bool wrong, bool fit) {
+    state = good.state;
+    if (!fit)
+        state.core[PHASE] = 3;
+    return made_here(c, store_size, out_size, at, wrong);
+}
+
+/* On the good state with so many links counted, a kept notification of this one, and a place behind it that is not in use. */
+static uint64_t made_linked(const struct call *c, size_t store_size, uint64_t at, uint64_t links, uint64_t link) {
+    state = good.state;
+    state.core[LINKS] = links;
+    state.tables[T_LINK] = link;
+    state.tables[T_LINK + 1] = UINT64_MAX;
+    return made_here(c, store_size, OUTPUT_SIZE, at, false);
+}
+
+static void try_links(const struct call *c) {
+    const uint64_t late = MOST_LINKS + 1, full = c->make == on_connected ? 5 : 0;
+    EXPECT(made_linked(c, STORE_SIZE, FAR_US, MOST_LINKS - 1, MOST_LINKS - 1) == 0);
+    EXPECT(made_linked(c, STORE_SIZE, FAR_US, MOST_LINKS - 1, MOST_LINKS) == 1);
+    EXPECT(made_linked(c, STORE_SIZE, FAR_US, MOST_LINKS, MOST_LINKS) == full);
+    EXPECT(made_linked(c, STORE_SIZE, FAR_US, MOST_LINKS, 0) == full);
+    EXPECT(made_linked(c, STORE_SIZE, FAR_US, MOST_LINKS + 1, 0) == 1);
+    EXPECT(made_linked(c, STORE_SIZE, FAR_US, UINT64_MAX, UINT64_MAX) == 1);
+    EXPECT(made_linked(c, STORE_SIZE, FAR_US, 0, 0) == 0);
+    EXPECT(made_linked(c, STORE_SIZE, FAR_US, 0, 1) == 1);
+    /* 1, 2 and 3 come before 5 */
+    EXPECT(made_linked(c, STORE_SIZE - 1, late, MOST_LINKS, MOST_LINKS + 1) == 1);
+    EXPECT(made_linked(c, STORE_SIZE - 1, late, MOST_LINKS, MOST_LINKS) == 2);
+    if (!c->reads)
+        EXPECT(made_linked(c, STORE_SIZE, late, MOST_LINKS, MOST_LINKS) == 3);
 }
 
 static void try_sizes(const struct call *c) {
@@ -252,20 +293,45 @@ static void try_sizes(const struct call *c) {
         EXPECT(made(c, STORE_SIZE, OUTPUT_SIZE, late, false, true) == 3);
 }
 
-/* A link with a frame begun, a result, a scan that runs, and a report that lists 180F and has a scan response. */
+static uint8_t frames[OUTPUT_SIZE];
+
+static void begins(uint64_t at, barleyrope_step step) {
+    EXPECT(barleyrope_push_steps(&good.state, good.store, STORE_SIZE, frames, OUTPUT_SIZE, at, &step, 1, NULL, 0).refusal == 0);
+}
+
+static void comes(uint64_t at, const uint8_t *frame, size_t size) {
+    EXPECT(barleyrope_on_fragment(&good.state, good.store, STORE_SIZE, frames, OUTPUT_SIZE, at, true, frame, size).refusal == 0);
+}
+
+/* Steps 0 to AGED: a link, a characteristic that is discovered, and an aged wait that passes on what it notifies. */
+static void pass_on(void) {
+    static const uint8_t service[] = {8, 0, 4, 0, 0x11, 6, 1, 0, 0xFF, 0xFF, 0x0F, 0x18};
+    static const uint8_t characteristic[] = {9, 0, 4, 0, 0x09, 7, 2, 0, 0x12, 3, 0, 0x19, 0x2A};
+    static const uint8_t no_more[] = {5, 0, 4, 0, 0x01, 0x08, 3, 0, 0x0A}, no_descriptor[] = {5, 0, 4, 0, 0x01, 0x04, 4, 0, 0x0A};
+    static const uint8_t notified[] = {4, 0, 4, 0, 0x1B, 3, 0, 7};
+    begins(0, barleyrope_connect_any(24, 0, 200, 5000));
+    EXPECT(barleyrope_on_connected(&good.state, good.store, STORE_SIZE, frames, OUTPUT_SIZE, 64, 10).refusal == 0);
+    begins(11, barleyrope_discover_characteristics(barleyrope_short_uuid(0x180F)));
+    comes(12, service, sizeof service);
+    comes(13, characteristic, sizeof characteristic);
+    comes(14, no_more, sizeof no_more);
+    comes(15, no_descriptor, sizeof no_descriptor);
+    begins(16, barleyrope_wait_notification_aged(barleyrope_short_uuid(0x2A19), 1000, 0, 0, 0));
+    comes(17, notified, sizeof notified);
+    EXPECT(barleyrope_steps_ended(&good.state) == AGED + 1 && good.state.core[LINKS] == 1 && good.state.tables[T_LINK] == 1);
+}
+
+/* A link with a frame begun, three results, a scan that runs, and a report that lists 180F and has a scan response. */
 static void prepare(void) {
-    static uint8_t out[OUTPUT_SIZE];
-    barleyrope_step connect = barleyrope_connect_any(24, 0, 200, 5000), scan = barleyrope_scan(60000);
     static const uint8_t begun[] = {9, 0, 4, 0, 0x1B};
     calling = "prepare";
-    EXPECT(barleyrope_push_steps(&good.state, good.store, STORE_SIZE, out, OUTPUT_SIZE, 0, &connect, 1, NULL, 0).refusal == 0);
-    EXPECT(barleyrope_on_connected(&good.state, good.store, STORE_SIZE, out, OUTPUT_SIZE, 64, 10).refusal == 0);
-    EXPECT(barleyrope_push_steps(&good.state, good.store, STORE_SIZE, out, OUTPUT_SIZE, 20, &scan, 1, NULL, 0).refusal == 0);
+    pass_on();
+    begins(20, barleyrope_scan(60000));
     EXPECT(barleyrope_on_advertising(&good.state, good.store, STORE_SIZE, 30, 37, BARLEYROPE_ADV_IND, head, listing, sizeof listing,
                                      false)
                .refusal == 0);
     EXPECT(barleyrope_on_scan_response(&good.state, good.store, STORE_SIZE, 40, head, listing, sizeof listing) == 0);
-    EXPECT(barleyrope_on_fragment(&good.state, good.store, STORE_SIZE, out, OUTPUT_SIZE, 50, true, begun, sizeof begun).refusal == 0);
+    comes(50, begun, sizeof begun);
     EXPECT(good.state.core[HELD] == sizeof begun);
 }
 
@@ -274,9 +340,11 @@ int main(void) {
     store_end = walled(STORE_SIZE + 1);
     out_end = walled(OUTPUT_SIZE + 1);
     prepare();
-    for (i = 0; i < sizeof all / sizeof *all; i++)
+    for (i = 0; i < sizeof all / sizeof *all; i++) {
         try_sizes(&all[i]);
-    printf("%u calls and views with other sizes lent: %lu refused, %lu checks, %lu failures\n", (unsigned)(sizeof all / sizeof *all),
-           refused, checks, failures);
+        try_links(&all[i]);
+    }
+    printf("%u calls and views with other sizes lent and other counts of links: %lu refused, %lu checks, %lu failures\n",
+           (unsigned)(sizeof all / sizeof *all), refused, checks, failures);
     return failures == 0 ? 0 : 1;
 }

@@ -112,13 +112,13 @@ static void as_before(void) {
     EXPECT(memcmp(was.out, out_end - sizeof was.out, sizeof was.out) == 0);
 }
 
-/* ---- fit, from 01: 'Fit means' (the words: crates c_core and words) ----------------------------------------------------------- */
+/* ---- fit, from 01: 'Fit means', and 02, One (the words: crates c_core and words) ----------------------------------------------- */
 
 enum {
     DEADLINE = 0, LEN = 3, PHASE = 4, ACTIVE = 5, DATED = 6, KIND = 7, MTU_NAMED = 10, HELD = 17, MTU = 19, PENDING = 20, PRESENT = 22,
     NEXT_INDEX = 23, REFUSED_STEPS = 24, NOTIFIED = 25, WAIT_FROM = 26, WAITING = 27, RESULTS = 28, SERVICES = 29,
-    CHARACTERISTICS = 30, NOTIFICATIONS = 31, REPORTS = 32, KEYS = 33,
-    T_RESULT = 320, T_CHARACTERISTIC = 608, T_NOTIFICATION = 704, T_KEY = 928
+    CHARACTERISTICS = 30, NOTIFICATIONS = 31, REPORTS = 32, KEYS = 33, LINKS = 34,
+    T_RESULT = 320, T_CHARACTERISTIC = 608, T_NOTIFICATION_AT = 672, T_NOTIFICATION = 704, T_KEY = 928, T_LINK = 1056, T_HEARD = 1088
 };
 
 static bool is_set(size_t word) {
@@ -147,7 +147,7 @@ static bool tables_fit(void) {
         if (TABLES[T_RESULT + i] >> 56 > 246)
             return false;
     for (i = 0; i < CORE[NOTIFICATIONS]; i++)
-        if (TABLES[T_NOTIFICATION + i] >> 56 > 244)
+        if (TABLES[T_NOTIFICATION + i] >> 56 > 244 || TABLES[T_LINK + i] > CORE[LINKS])
             return false;
     for (i = 1; i < CORE[CHARACTERISTICS]; i++)
         if (TABLES[T_CHARACTERISTIC + i - 1] >> 48 >= TABLES[T_CHARACTERISTIC + i] >> 48)
@@ -177,7 +177,7 @@ static bool link_fits(void) {
 static bool is_fit(void) {
     return counts_fit() && tables_fit() && running_fits() && link_fits() && CORE[NOTIFICATIONS] <= CORE[NOTIFIED] &&
            CORE[NOTIFIED] <= EDGE62 && CORE[WAIT_FROM] <= CORE[NOTIFIED] && CORE[REFUSED_STEPS] <= EDGE62 + 64 &&
-           CORE[NEXT_INDEX] % 4294967296 + CORE[WAITING] <= 4294967295;
+           CORE[NEXT_INDEX] % 4294967296 + CORE[WAITING] <= 4294967295 && CORE[LINKS] <= EDGE62;
 }
 
 /* ---- a call's arguments, and the refusal that 01 gives them -------------------------------------------------------------------- */
@@ -259,6 +259,8 @@ static void sent_well(void) {
     EXPECT(told[3] == 2 || told[7] == 0);
 }
 
+static uint64_t more_links; /* those that the call is to count: an accepted connected call counts one */
+
 /* After a call with this refusal: an accepted one leaves a fit state. */
 static void changed_by(int refusal, bool sends) {
     refused_by(refusal, 8);
@@ -269,6 +271,7 @@ static void changed_by(int refusal, bool sends) {
     else
         EXPECT(memcmp(was.out, out_end - sizeof was.out, sizeof was.out) == 0);
     EXPECT(is_fit());
+    EXPECT(CORE[LINKS] - was.state.core[LINKS] == more_links);
     note();
 }
 
@@ -298,7 +301,7 @@ static barleyrope_step some_step(size_t values, bool spoil) {
         len = one_in(2) ? 245 : (size_t)any();
     if (spoil && one_in(64))
         place = one_in(2) ? values : (size_t)any();
-    switch (below(15)) {
+    switch (below(16)) {
     case 0: return barleyrope_scan(ms);
     case 1: return barleyrope_connect_any(24, 0, 100, ms);
     case 2: return barleyrope_connect_address(someone(), 24, 0, 100, ms);
@@ -313,7 +316,8 @@ static barleyrope_step some_step(size_t values, bool spoil) {
     case 11: return barleyrope_wait(ms);
     case 12: return barleyrope_disconnect();
     case 13: return barleyrope_capture(one_in(2));
-    default: return barleyrope_capture_secrets(one_in(2));
+    case 14: return barleyrope_capture_secrets(one_in(2));
+    default: return barleyrope_wait_notification_aged(some_uuid(), ms, place, len, (uint32_t)(one_in(4) ? any() : below(1000)));
     }
 }
 
@@ -366,8 +370,12 @@ static void on_timer(void) {
 static void on_connected(void) {
     int refusal = shared_refusal(true, true);
     calling = "on_connected";
+    if (refusal == 0 && CORE[LINKS] == EDGE62)
+        refusal = 5;
     barleyrope_on_connected_words(CORE, TABLES, store, store_size, out, out_size, (uint16_t)any(), at, told);
+    more_links = 1;
     changed_by(refusal, true);
+    more_links = 0;
 }
 
 static void on_disconnected(void) {
@@ -533,6 +541,42 @@ static void read_result(void) {
     inside(told[5], told[6]);
 }
 
+/* Of a kept result that names a notification, if there is one. */
+static uint32_t naming_index(void) {
+    size_t k, i = below(64);
+    for (k = 0; k < 64; k++, i = (i + 1) % 64)
+        if (i < CORE[RESULTS] && TABLES[T_HEARD + i] != 0)
+            return (uint32_t)TABLES[T_RESULT + i];
+    return (uint32_t)(CORE[NEXT_INDEX] - below(70));
+}
+
+static unsigned long passed_on;
+
+/* The kept notification that the result of an index names: those kept have the numbers from `first` on. */
+static void read_passed_on(void) {
+    uint32_t index = one_in(4) ? (uint32_t)any() : naming_index();
+    int refusal = shared_refusal(false, false);
+    uint64_t want[8] = {0}, heard = 0, first = CORE[NOTIFIED] - CORE[NOTIFICATIONS];
+    size_t i;
+    calling = "passed_on";
+    barleyrope_passed_on_words(CORE, TABLES, store, store_size, index, told);
+    refused_by(refusal, 8);
+    if (refusal != 0)
+        return;
+    for (i = (size_t)CORE[RESULTS]; i-- > 0;)
+        if (TABLES[T_RESULT + i] % 4294967296 == index)
+            heard = TABLES[T_HEARD + i];
+    if (heard > first && heard <= CORE[NOTIFIED]) {
+        i = (size_t)(heard - 1 - first);
+        want[1] = 1, want[2] = TABLES[T_NOTIFICATION_AT + i], want[3] = TABLES[T_LINK + i];
+        want[4] = TABLES[T_NOTIFICATION + i] % 65536, want[5] = TABLES[T_NOTIFICATION + i] >> 16 & 1;
+        want[6] = 31604 + 244 * i, want[7] = TABLES[T_NOTIFICATION + i] >> 56;
+        passed_on++;
+    }
+    EXPECT(memcmp(told, want, sizeof want) == 0);
+    inside(told[6], told[7]);
+}
+
 static void read_report(void) {
     size_t i = one_in(8) ? (size_t)any() : below(66);
     int refusal = shared_refusal(false, false);
@@ -567,7 +611,7 @@ static void report_body(const uint64_t *c, const uint64_t *t, const uint8_t *s, 
 
 /* ---- one call of each, in some order ------------------------------------------------------------------------------------------------ */
 
-#define EXPORTS 14
+#define EXPORTS 15
 
 static void call(size_t which, bool spoil) {
     lend(spoil);
@@ -587,12 +631,13 @@ static void call(size_t which, bool spoil) {
     case 10: read_report(); break;
     case 11: read_part("report_data", barleyrope_report_data_words); break;
     case 12: read_part("report_response", barleyrope_report_response_words); break;
-    default: read_part("report_body", report_body); break;
+    case 13: read_part("report_body", report_body); break;
+    default: read_passed_on(); break;
     }
 }
 
 static void call_each(void) {
-    size_t i, first = below(EXPORTS), stride = 1 + 2 * below(3); /* 1, 3 or 5: none divides 14 */
+    size_t i, first = below(EXPORTS), stride = (size_t)1 << below(3); /* 1, 2 or 4: none shares a divisor with 15 */
     for (i = 0; i < EXPORTS; i++)
         call((first + i * stride) % EXPORTS, true);
     calling = "all of them";
@@ -645,9 +690,19 @@ static uint64_t damaged(uint64_t word) {
     }
 }
 
+/* A result names a notification, one that is not kept or one that is still to come; or one's link is the last, or the next. */
+static void rename_one(void) {
+    if (one_in(2))
+        TABLES[T_HEARD + below((size_t)CORE[RESULTS] + 1) % 64] = CORE[NOTIFIED] + 1 - below(36);
+    else
+        TABLES[T_LINK + below(32)] = CORE[LINKS] + 1 - below(3);
+}
+
 static void damage_one_word(void) {
     size_t i = below(2 * BARLEYROPE_TABLE_WORDS);
-    if (i < BARLEYROPE_TABLE_WORDS)
+    if (one_in(8))
+        rename_one();
+    else if (i < BARLEYROPE_TABLE_WORDS)
         TABLES[i] = damaged(TABLES[i]);
     else
         CORE[i % BARLEYROPE_CORE_WORDS] = damaged(CORE[i % BARLEYROPE_CORE_WORDS]);
@@ -728,6 +783,6 @@ int main(int argc, char **argv) {
            by_refusal[0]);
     for (i = 1; i < 9; i++)
         printf("%s by %u: %lu", i == 1 ? "" : ",", (unsigned)i, by_refusal[i]);
-    printf("; %lu failures\n", failures);
+    printf("; %lu notifications told that a wait passed on; %lu failures\n", passed_on, failures);
     return failures == 0 ? 0 : 1;
 }

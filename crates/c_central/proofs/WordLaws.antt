@@ -62,6 +62,7 @@ emptied-core w =
       other w 31 (λ e. omega arith),
       other w 32 (λ e. omega arith),
       other w 33 (λ e. omega arith),
+      other w 34 (λ e. omega arith),
     )
 
 -- by whether the frame was too long

@@ -11,11 +11,11 @@ ghost use Rattle.radio_rules.specs.Hearing.{adv, advertised, scanResponded};
 ghost use Rattle.radio_sights.specs.View.{view};
 ghost use Rattle.radio_views.specs.Spots.{dataSeen, responseSeen, bodySpot};
 ghost use Rattle.state_core.specs.Reading.{central};
-ghost use Rattle.state_readers.specs.Readers.{timer, handle, result};
+ghost use Rattle.state_readers.specs.Readers.{timer, handle, result, passedOn};
 ghost use Rattle.c_core.specs.Layout.{coreIn};
 ghost use Rattle.c_steps.specs.Steps.{batchIn};
 ghost use Rattle.c_told.specs.Told.{answerWords, refusalWords, advertisedWords};
-ghost use Rattle.c_told.specs.Read.{timerWords, handleWords, givenWords, seenWords, spotWords};
+ghost use Rattle.c_told.specs.Read.{timerWords, handleWords, givenWords, passedWords, seenWords, spotWords};
 ghost use Rattle.c_central.specs.After.{outcome, quiet, heard, Answered, Refused, Acted, Given, GivenFragment, Kept, KeptFragment, KeptQuietly};
 use central_answers::Answer;
 use central_answers::QuietAnswer;
@@ -28,7 +28,7 @@ use uuid::Uuid;
 // ---- an answer in words
 
 // The core's words stay, if the call was refused.
-fn give_core(core: &mut [u64; 34], refusal: u8, next: Core)
+fn give_core(core: &mut [u64; 35], refusal: u8, next: Core)
     ensures { λ _. ⌜ Given refusal next (now (core .entry)) (now (core .exit)) ⌝ }
 {
     if refusal == refusal::ACCEPTED {
@@ -36,7 +36,7 @@ fn give_core(core: &mut [u64; 34], refusal: u8, next: Core)
     }
 }
 
-fn give(core: &mut [u64; 34], told: &mut [u64; 8], a: Answer)
+fn give(core: &mut [u64; 35], told: &mut [u64; 8], a: Answer)
     ensures { λ _. ⌜ (now (told .exit) ≡ answerWords (a .refusal) (a .sent)) × Given (a .refusal) (a .core) (now (core .entry)) (now (core .exit)) ⌝ }
 {
     let refusal = a.refusal;
@@ -47,7 +47,7 @@ fn give(core: &mut [u64; 34], told: &mut [u64; 8], a: Answer)
 }
 
 // A fragment that makes its frame too long is refused, and what is held of the frame is emptied.
-fn give_fragment(core: &mut [u64; 34], told: &mut [u64; 8], a: Answer)
+fn give_fragment(core: &mut [u64; 35], told: &mut [u64; 8], a: Answer)
     ensures { λ _. ⌜ (now (told .exit) ≡ answerWords (a .refusal) (a .sent)) × GivenFragment (a .refusal) (a .core) (now (core .entry)) (now (core .exit)) ⌝ }
 {
     let refusal = a.refusal;
@@ -61,7 +61,7 @@ fn give_fragment(core: &mut [u64; 34], told: &mut [u64; 8], a: Answer)
     give_core(core, refusal, next);
 }
 
-fn give_quietly(core: &mut [u64; 34], told: &mut [u64; 8], a: QuietAnswer)
+fn give_quietly(core: &mut [u64; 35], told: &mut [u64; 8], a: QuietAnswer)
     ensures { λ _. ⌜ (now (told .exit) ≡ refusalWords (a .refusal)) × Given (a .refusal) (a .core) (now (core .entry)) (now (core .exit)) ⌝ }
 {
     let refusal = a.refusal;
@@ -70,7 +70,7 @@ fn give_quietly(core: &mut [u64; 34], told: &mut [u64; 8], a: QuietAnswer)
     give_core(core, refusal, next);
 }
 
-fn give_action(core: &mut [u64; 34], told: &mut [u64; 8], a: Advertised)
+fn give_action(core: &mut [u64; 35], told: &mut [u64; 8], a: Advertised)
     ensures { λ _. ⌜ (now (told .exit) ≡ advertisedWords (a .refusal) (a .action)) × Given (a .refusal) (a .core) (now (core .entry)) (now (core .exit)) ⌝ }
 {
     let refusal = a.refusal;
@@ -85,8 +85,8 @@ fn give_action(core: &mut [u64; 34], told: &mut [u64; 8], a: Advertised)
 // A batch of count steps, 12 words each, whose values stand in the lent bytes.
 #[no_mangle]
 pub extern "C" fn barleyrope_push_steps_words(
-    core: &mut [u64; 34],
-    tables: &mut [u64; 1056],
+    core: &mut [u64; 35],
+    tables: &mut [u64; 1152],
     store: &mut [u8],
     out: &mut [u8],
     at: u64,
@@ -109,8 +109,8 @@ pub extern "C" fn barleyrope_push_steps_words(
 // The clock reached a time.
 #[no_mangle]
 pub extern "C" fn barleyrope_on_timer_words(
-    core: &mut [u64; 34],
-    tables: &mut [u64; 1056],
+    core: &mut [u64; 35],
+    tables: &mut [u64; 1152],
     store: &mut [u8],
     out: &mut [u8],
     at: u64,
@@ -129,8 +129,8 @@ pub extern "C" fn barleyrope_on_timer_words(
 // There is a new link, by this handle.
 #[no_mangle]
 pub extern "C" fn barleyrope_on_connected_words(
-    core: &mut [u64; 34],
-    tables: &mut [u64; 1056],
+    core: &mut [u64; 35],
+    tables: &mut [u64; 1152],
     store: &mut [u8],
     out: &mut [u8],
     handle: u16,
@@ -150,8 +150,8 @@ pub extern "C" fn barleyrope_on_connected_words(
 // A fragment of a frame comes in: it begins one, or goes on with what is held.
 #[no_mangle]
 pub extern "C" fn barleyrope_on_fragment_words(
-    core: &mut [u64; 34],
-    tables: &mut [u64; 1056],
+    core: &mut [u64; 35],
+    tables: &mut [u64; 1152],
     store: &mut [u8],
     out: &mut [u8],
     at: u64,
@@ -172,8 +172,8 @@ pub extern "C" fn barleyrope_on_fragment_words(
 // There is no link any more. It tells its refusal alone.
 #[no_mangle]
 pub extern "C" fn barleyrope_on_disconnected_words(
-    core: &mut [u64; 34],
-    tables: &mut [u64; 1056],
+    core: &mut [u64; 35],
+    tables: &mut [u64; 1152],
     store: &mut [u8],
     at: u64,
     told: &mut [u64; 8],
@@ -193,8 +193,8 @@ pub extern "C" fn barleyrope_on_disconnected_words(
 // An advertisement. It tells: refusal, action, interval, latency, timeout.
 #[no_mangle]
 pub extern "C" fn barleyrope_on_advertising_words(
-    core: &mut [u64; 34],
-    tables: &mut [u64; 1056],
+    core: &mut [u64; 35],
+    tables: &mut [u64; 1152],
     store: &mut [u8],
     at: u64,
     channel: u8,
@@ -228,8 +228,8 @@ pub extern "C" fn barleyrope_on_advertising_words(
 // A scan response. It tells its refusal alone.
 #[no_mangle]
 pub extern "C" fn barleyrope_on_scan_response_words(
-    core: &mut [u64; 34],
-    tables: &mut [u64; 1056],
+    core: &mut [u64; 35],
+    tables: &mut [u64; 1152],
     store: &mut [u8],
     at: u64,
     address: u64,
@@ -252,8 +252,8 @@ pub extern "C" fn barleyrope_on_scan_response_words(
 // When the running step is to be ended by a timer call.
 #[no_mangle]
 pub extern "C" fn barleyrope_timer_us_words(
-    core: &[u64; 34],
-    tables: &[u64; 1056],
+    core: &[u64; 35],
+    tables: &[u64; 1152],
     store: &[u8],
     told: &mut [u64; 8],
 )
@@ -266,8 +266,8 @@ pub extern "C" fn barleyrope_timer_us_words(
 // The handle of the link.
 #[no_mangle]
 pub extern "C" fn barleyrope_connected_handle_words(
-    core: &[u64; 34],
-    tables: &[u64; 1056],
+    core: &[u64; 35],
+    tables: &[u64; 1152],
     store: &[u8],
     told: &mut [u64; 8],
 )
@@ -280,8 +280,8 @@ pub extern "C" fn barleyrope_connected_handle_words(
 // The kept result of an index: time, status, ATT error code, place and length of its value.
 #[no_mangle]
 pub extern "C" fn barleyrope_result_words(
-    core: &[u64; 34],
-    tables: &[u64; 1056],
+    core: &[u64; 35],
+    tables: &[u64; 1152],
     store: &[u8],
     index: u32,
     told: &mut [u64; 8],
@@ -292,11 +292,26 @@ pub extern "C" fn barleyrope_result_words(
     *told = c_told::given_words(state_readers::result(c, tables, store, index));
 }
 
+// The notification that the kept result of an index names: time, link, handle, whether it is an indication, place and length of its value.
+#[no_mangle]
+pub extern "C" fn barleyrope_passed_on_words(
+    core: &[u64; 35],
+    tables: &[u64; 1152],
+    store: &[u8],
+    index: u32,
+    told: &mut [u64; 8],
+)
+    ensures { λ _. ⌜ now (told .exit) ≡ passedWords (passedOn (central (coreIn (now (core .entry))) (now (tables .entry))) (length (now (store .entry))) index) ⌝ }
+{
+    let c = c_core::decode(core);
+    *told = c_told::passed_words(state_readers::passed_on(c, tables, store, index));
+}
+
 // Report i: time, channel, PDU type, address, place and length of its data, whether it has a scan response, its place and length.
 #[no_mangle]
 pub extern "C" fn barleyrope_report_words(
-    core: &[u64; 34],
-    tables: &[u64; 1056],
+    core: &[u64; 35],
+    tables: &[u64; 1152],
     store: &[u8],
     i: usize,
     told: &mut [u64; 12],
@@ -310,8 +325,8 @@ pub extern "C" fn barleyrope_report_words(
 // Where the advertising data of report i stands in the store.
 #[no_mangle]
 pub extern "C" fn barleyrope_report_data_words(
-    core: &[u64; 34],
-    tables: &[u64; 1056],
+    core: &[u64; 35],
+    tables: &[u64; 1152],
     store: &[u8],
     i: usize,
     told: &mut [u64; 8],
@@ -325,8 +340,8 @@ pub extern "C" fn barleyrope_report_data_words(
 // Where the scan response of report i stands in the store.
 #[no_mangle]
 pub extern "C" fn barleyrope_report_response_words(
-    core: &[u64; 34],
-    tables: &[u64; 1056],
+    core: &[u64; 35],
+    tables: &[u64; 1152],
     store: &[u8],
     i: usize,
     told: &mut [u64; 8],
@@ -340,8 +355,8 @@ pub extern "C" fn barleyrope_report_response_words(
 // Where the body of the structure of report i stands that lists the service, of its data or else of its scan response.
 #[no_mangle]
 pub extern "C" fn barleyrope_report_body_words(
-    core: &[u64; 34],
-    tables: &[u64; 1056],
+    core: &[u64; 35],
+    tables: &[u64; 1152],
     store: &[u8],
     i: usize,
     low: u64,

@@ -8,7 +8,7 @@ freshCore =
     record {
       running = noRunning;
       bearer = record { held = 0; link = record { handle = 0; mtu = 0; pending = 0; terminating = false }; present = false };
-      counters = record { «next_index» = 0; «refused_steps» = 0; notified = 0; «wait_from» = 0 };
+      counters = record { «next_index» = 0; «refused_steps» = 0; notified = 0; «wait_from» = 0; links = 0 };
       counts = record { waiting = 0; results = 0; services = 0; characteristics = 0; notifications = 0 };
       reports = 0;
       «key_count» = 0;

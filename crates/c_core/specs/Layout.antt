@@ -1,4 +1,4 @@
--- The core that 34 words say, one field a word. Every word says something: a field is the low bits of its word, a flag the lowest, and fit judges the rest.
+-- The core that 35 words say, one field a word. Every word says something: a field is the low bits of its word, a flag the lowest, and fit judges the rest.
 use Prim.Native.Nat.{ℕ, _%_}
 use mathlib.Core.Bool.{Bool}
 use mathlib.Core.List.{List}
@@ -14,7 +14,7 @@ use Rattle.state_core.specs.declared.Core.{Core}
 
 -- how many words there are
 abbrev pub coreSize : ℕ
-coreSize = 34
+coreSize = 35
 
 abbrev pub flagIn : ℕ → Bool
 flagIn x = eqb (x % 2) 1
@@ -60,10 +60,11 @@ bearerIn w =
       present = flagIn (getD w 22 0);
     }
 
--- ---- words 23 to 26
+-- ---- words 23 to 26, and 34
 
 abbrev pub countersIn : List ℕ → Counters
-countersIn w = record { «next_index» = getD w 23 0 % two32; «refused_steps» = getD w 24 0; notified = getD w 25 0; «wait_from» = getD w 26 0 }
+countersIn w =
+    record { «next_index» = getD w 23 0 % two32; «refused_steps» = getD w 24 0; notified = getD w 25 0; «wait_from» = getD w 26 0; links = getD w 34 0 }
 
 -- ---- words 27 to 31
 

@@ -15,7 +15,7 @@ use uuid::Uuid;
 use words::Flat;
 
 // All words of a core.
-pub const SIZE: usize = 34;
+pub const SIZE: usize = 35;
 
 // The running step: its deadline, its number, how far it is, the length of its value, and whether it is there and dated.
 pub const DEADLINE: usize = 0;
@@ -91,6 +91,9 @@ pub const REPORTS: usize = 32;
 
 pub const KEY_COUNT: usize = 33;
 
+// A counter that came later, behind all others.
+pub const LINKS: usize = 34;
+
 // How many numbers 8, 16 and 32 bits have.
 pub const IN_8_BITS: u64 = 256;
 
@@ -100,7 +103,7 @@ pub const IN_32_BITS: u64 = 4_294_967_296;
 
 // ---- the parts from their words
 
-fn flat_in(w: &[u64; 34]) -> Flat
+fn flat_in(w: &[u64; 35]) -> Flat
     ensures { λ r. ⌜ r ≡ flatIn (now (w .entry)) ⌝ }
 {
     let kind = (w[KIND] % IN_8_BITS) as u8;
@@ -126,7 +129,7 @@ fn flat_in(w: &[u64; 34]) -> Flat
     }
 }
 
-fn running_in(w: &[u64; 34]) -> Running
+fn running_in(w: &[u64; 35]) -> Running
     ensures { λ r. ⌜ r ≡ runningIn (now (w .entry)) ⌝ }
 {
     let f = flat_in(w);
@@ -150,7 +153,7 @@ fn running_in(w: &[u64; 34]) -> Running
     }
 }
 
-fn bearer_in(w: &[u64; 34]) -> Bearer
+fn bearer_in(w: &[u64; 35]) -> Bearer
     ensures { λ r. ⌜ r ≡ bearerIn (now (w .entry)) ⌝ }
 {
     let held = w[HELD] as usize;
@@ -171,22 +174,24 @@ fn bearer_in(w: &[u64; 34]) -> Bearer
     }
 }
 
-fn counters_in(w: &[u64; 34]) -> Counters
+fn counters_in(w: &[u64; 35]) -> Counters
     ensures { λ r. ⌜ r ≡ countersIn (now (w .entry)) ⌝ }
 {
     let next_index = (w[NEXT_INDEX] % IN_32_BITS) as u32;
     let refused_steps = w[REFUSED_STEPS];
     let notified = w[NOTIFIED];
     let wait_from = w[WAIT_FROM];
+    let links = w[LINKS];
     Counters {
         next_index,
         refused_steps,
         notified,
         wait_from,
+        links,
     }
 }
 
-fn counts_in(w: &[u64; 34]) -> Counts
+fn counts_in(w: &[u64; 35]) -> Counts
     ensures { λ r. ⌜ r ≡ countsIn (now (w .entry)) ⌝ }
 {
     let waiting = w[WAITING] as usize;
@@ -204,7 +209,7 @@ fn counts_in(w: &[u64; 34]) -> Counts
 }
 
 // The core that the words say.
-pub fn decode(w: &[u64; 34]) -> Core
+pub fn decode(w: &[u64; 35]) -> Core
     ensures { λ r. ⌜ r ≡ coreIn (now (w .entry)) ⌝ }
 {
     let running = running_in(w);
@@ -253,7 +258,7 @@ fn bit(x: bool) -> u64
 }
 
 // Words that say the core.
-pub fn encode(core: &mut [u64; 34], c: Core)
+pub fn encode(core: &mut [u64; 35], c: Core)
     ensures { λ _. ⌜ coreIn (now (core .exit)) ≡ c ⌝ }
 {
     let r = c.running;
@@ -302,5 +307,6 @@ pub fn encode(core: &mut [u64; 34], c: Core)
         n.notifications as u64,
         c.reports as u64,
         c.key_count as u64,
+        k.links,
     ];
 }

@@ -16,7 +16,8 @@ stepSize = 12
 abbrev pub mostWords : ℕ
 mostWords = 768
 
--- ---- from the word j on: the step taken apart, in the order of a core's words 7 to 16
+-- ---- from the word j on: the step taken apart, in the order of a core's words 7 to 16. An aged wait has its flag set, the low 16 bits of its age
+-- where a Connect has its latency, and the high ones where it has its timeout (ageOf, words/specs/Words.antt)
 
 abbrev pub flatAt : List ℕ → ℕ → Flat
 flatAt w j =

@@ -1,6 +1,7 @@
--- What the returns of given_words and report_words ask.
+-- What the returns of given_words, passed_words and report_words ask.
 use Prim.Native.Nat.{ℕ}
 use mathlib.Core.Path.{_≡_}
+use mathlib.Core.Bool.{Bool}
 use Rattle.time.specs.declared.Micros.{Micros}
 use Rattle.state.specs.declared.StepStatus.{StepStatus}
 use Rattle.adv_reports.specs.Key.{key}
@@ -10,11 +11,17 @@ use Rattle.radio_sights.specs.declared.Seen.the-variants as seen
 use Rattle.radio_sights.specs.View.{spanOf}
 use Rattle.state_readers.specs.declared.Given.{Given}
 use Rattle.state_readers.specs.declared.Given.the-variants as given
-use Rattle.c_told.specs.Read.{eight, twelve, statusNumber, statusCode, responseThere, givenWords, seenWords}
+use Rattle.state_readers.specs.declared.Passed.{Passed}
+use Rattle.state_readers.specs.declared.Passed.the-variants as passed
+use Rattle.c_told.specs.Read.{eight, twelve, statusNumber, statusCode, flagNumber, responseThere, givenWords, passedWords, seenWords}
 
 pub given-law : (at : Micros) (s : StepStatus) (place len n k : ℕ) (x : Given) → n ≡ statusNumber s → k ≡ statusCode s → x ≡ given.Is at s place len
     → eight 0 1 (at .0) n k place len 0 ≡ givenWords x
 given-law at s place len n k x e f g = rw (e, f, g)
+
+pub passed-law : (at : Micros) (link handle : ℕ) (b : Bool) (place len k : ℕ) (x : Passed) → k ≡ flagNumber b → x ≡ passed.Is at link handle b place len
+    → eight 0 1 (at .0) link handle k place len ≡ passedWords x
+passed-law at link handle b place len k x e f = rw (e, f)
 
 pub report-law : (r : AdvReport) (k there : ℕ) (s : Span) → k ≡ key (r .address) → there ≡ responseThere (r .response) → s ≡ spanOf (r .response)
     → twelve 0 1 (r .at .0) (r .channel) (r .pdu) k (r .«data» .at) (r .«data» .len) there (s .at) (s .len) 0 ≡ seenWords (seen.Is r)

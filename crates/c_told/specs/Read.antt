@@ -9,7 +9,7 @@ use Rattle.radio_sights.specs.declared.Seen.the-variants as seen
 use Rattle.radio_sights.specs.View.{spanOf}
 use Rattle.radio_views.specs.declared.Spot.{Spot}
 use Rattle.radio_views.specs.declared.Spot.the-variants as spot
-pub use Rattle.state_readers.specs.Numbers.{eight, timerWords, handleWords, statusNumber, statusCode, givenWords}
+pub use Rattle.state_readers.specs.Numbers.{eight, timerWords, handleWords, statusNumber, statusCode, givenWords, flagNumber, passedWords}
 
 abbrev pub twelve : ℕ → ℕ → ℕ → ℕ → ℕ → ℕ → ℕ → ℕ → ℕ → ℕ → ℕ → ℕ → List ℕ
 twelve a b c d e f g h i j k l = a ∷ b ∷ c ∷ d ∷ e ∷ f ∷ g ∷ h ∷ i ∷ j ∷ k ∷ l ∷ []

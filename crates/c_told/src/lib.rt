@@ -2,7 +2,7 @@
 ghost use mathlib.Core.Path.{_≡_};
 ghost use Rattle.radio_sights.specs.View.{spanOf};
 ghost use Rattle.c_told.specs.Told.{answerWords, refusalWords, advertisedWords};
-ghost use Rattle.c_told.specs.Read.{statusNumber, statusCode, responseThere, timerWords, handleWords, givenWords, seenWords, spotWords};
+ghost use Rattle.c_told.specs.Read.{statusNumber, statusCode, flagNumber, responseThere, timerWords, handleWords, givenWords, passedWords, seenWords, spotWords};
 use radio_match::AdvAction;
 use radio_sights::AdvReport;
 use radio_sights::Response;
@@ -14,6 +14,7 @@ use state::Sent;
 use state::StepStatus;
 use state_readers::Given;
 use state_readers::Handle;
+use state_readers::Passed;
 use state_readers::Timer;
 
 // What a call asks of the link: nothing, an update of its parameters, its end.
@@ -166,6 +167,37 @@ pub fn given_words(x: Given) -> [u64; 8]
             let number = status_number(status);
             let code = status_code(status);
             [0, THERE, at.0, number, code, place as u64, len as u64, 0]
+        }
+    }
+}
+
+fn flag_number(b: bool) -> u64
+    ensures { λ r. ⌜ r ≡ flagNumber b ⌝ }
+{
+    if b {
+        return 1;
+    }
+    0
+}
+
+// A notification: time, link, handle, whether it is an indication, place and length of its value.
+pub fn passed_words(x: Passed) -> [u64; 8]
+    ensures { λ r. ⌜ r ≡ passedWords x ⌝ }
+{
+    match x {
+        Passed::Refused(why) => [why as u64, 0, 0, 0, 0, 0, 0, 0],
+        Passed::Nothing => [0, 0, 0, 0, 0, 0, 0, 0],
+        Passed::Is {
+            at,
+            link,
+            handle,
+            indication,
+            place,
+            len,
+        } => {
+            let on = handle as u64;
+            let kind = flag_number(indication);
+            [0, THERE, at.0, link, on, kind, place as u64, len as u64]
         }
     }
 }

@@ -31,16 +31,16 @@ module _ {A : Type 0} where
   all-same n f x h = table-same n f (λ j. x) (λ k b. h k) ∙ constant 0 n x
 
 abbrev no-words : List ℕ
-no-words = replicate 1056 0
+no-words = replicate 1152 0
 
 z : (k : ℕ) → _≡_ {A = ℕ} (getD no-words k 0) 0
-z k = zeros 1056 k
+z k = zeros 1152 k
 
 no-queued : queuedOf (flatOf 0 0 0 0) ≡ noQueued
 unfolding stepOf lenOf
 no-queued = refl
 
-no-result : resultOf 0 0 ≡ noResult
+no-result : resultOf 0 0 0 ≡ noResult
 unfolding resultOf statusOf
 no-result = refl
 
@@ -52,7 +52,7 @@ no-characteristic : characteristicOf 0 0 0 ≡ zero-characteristic
 unfolding characteristicOf cccdOf
 no-characteristic = refl
 
-no-notification : notificationOf 0 0 ≡ noNotification
+no-notification : notificationOf 0 0 0 ≡ noNotification
 unfolding notificationOf
 no-notification = refl
 
@@ -66,7 +66,7 @@ fresh-steps = all-same 64 (λ i. queuedOf (flatOf (word no-words 0 i) (word no-w
 
 fresh-results : resultsIn no-words ≡ replicate 64 noResult
 unfolding resultsIn
-fresh-results = all-same 64 (λ i. resultOf (word no-words 256 i) (word no-words 320 i)) noResult (λ k. rw (z (256 + k), z (320 + k)) no-result)
+fresh-results = all-same 64 (λ i. resultOf (word no-words 256 i) (word no-words 320 i) (word no-words 1088 i)) noResult (λ k. rw (z (256 + k), z (320 + k), z (1088 + k)) no-result)
 
 fresh-services : servicesIn no-words ≡ replicate 32 zero-service
 unfolding servicesIn
@@ -78,7 +78,8 @@ fresh-characteristics = all-same 64 (λ i. characteristicOf (word no-words 480 i
 
 fresh-notifications : notificationsIn no-words ≡ replicate 32 noNotification
 unfolding notificationsIn
-fresh-notifications = all-same 32 (λ i. notificationOf (word no-words 672 i) (word no-words 704 i)) noNotification (λ k. rw (z (672 + k), z (704 + k)) no-notification)
+fresh-notifications = all-same 32 (λ i. notificationOf (word no-words 672 i) (word no-words 704 i) (word no-words 1056 i)) noNotification
+    (λ k. rw (z (672 + k), z (704 + k), z (1056 + k)) no-notification)
 
 fresh-who : whoIn no-words ≡ replicate 64 0
 unfolding whoIn
@@ -123,7 +124,7 @@ fresh-core =
     record {
       running = noRunning;
       bearer = record { held = 0; link = record { handle = 0; mtu = 0; pending = 0; terminating = false }; present = false };
-      counters = record { «next_index» = 0; «refused_steps» = 0; notified = 0; «wait_from» = 0 };
+      counters = record { «next_index» = 0; «refused_steps» = 0; notified = 0; «wait_from» = 0; links = 0 };
       counts = record { waiting = 0; results = 0; services = 0; characteristics = 0; notifications = 0 };
       reports = 0;
       «key_count» = 0;

@@ -43,6 +43,7 @@ pub fn fresh() -> State
                 refused_steps: 0,
                 notified: 0,
                 wait_from: 0,
+                links: 0,
             },
             counts: Counts {
                 waiting: 0,
@@ -54,6 +55,6 @@ pub fn fresh() -> State
             reports: 0,
             key_count: 0,
         },
-        tables: [0u64; 1056],
+        tables: [0u64; 1152],
     }
 }

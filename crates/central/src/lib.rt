@@ -21,7 +21,7 @@ pub mod fresh;
 
 pub struct State {
     pub core: Core,
-    pub tables: [u64; 1056],
+    pub tables: [u64; 1152],
 }
 
 // The answer of a call that may send. A refusal of 0 is none.

@@ -39,7 +39,7 @@ pub fn unask(t: Turn) -> Turn
 }
 
 // The handle after the range that was asked for. 65,536 is past all handles.
-pub fn after_range(c: Core, tables: &[u64; 1056], svc: Service) -> u32
+pub fn after_range(c: Core, tables: &[u64; 1152], svc: Service) -> u32
     requires { ⌜ c .counts .characteristics ≤ mostCharacteristics ⌝ }
     ensures { λ r.
         ⌜ ((s : List ℕ) (x : Told) → r ≡ afterRange (record { held = held c (now (tables .entry)) s; told = x }) svc) ⌝ }
@@ -70,7 +70,7 @@ pub fn after_range(c: Core, tables: &[u64; 1056], svc: Service) -> u32
 // The link has the smaller of both MTUs.
 pub fn mtu_told(
     t: Turn,
-    tables: &mut [u64; 1056],
+    tables: &mut [u64; 1152],
     store: &mut [u8],
     at: Micros,
     n: usize,
@@ -94,7 +94,7 @@ pub fn mtu_told(
 }
 
 // A write is done.
-pub fn written(t: Turn, tables: &mut [u64; 1056], store: &mut [u8], at: Micros, n: usize) -> Turn
+pub fn written(t: Turn, tables: &mut [u64; 1152], store: &mut [u8], at: Micros, n: usize) -> Turn
     requires { ⌜ (length (now store) ≡ storeSize) × (t .core .counts .results ≤ mostResults) × (n ≤ payloadSize) ⌝ }
     ensures { λ r.
         ⌜ ((o : List ℕ) → world r (now (tables .exit)) (now (store .exit)) o
@@ -110,7 +110,7 @@ pub fn written(t: Turn, tables: &mut [u64; 1056], store: &mut [u8], at: Micros, 
 }
 
 // A read's value: the body behind the opcode.
-pub fn value_read(t: Turn, tables: &mut [u64; 1056], store: &mut [u8], at: Micros, n: usize) -> Turn
+pub fn value_read(t: Turn, tables: &mut [u64; 1152], store: &mut [u8], at: Micros, n: usize) -> Turn
     requires { ⌜ (length (now store) ≡ storeSize) × (t .core .counts .results ≤ mostResults) × (n ≤ payloadSize) ⌝ }
     ensures { λ r.
         ⌜ ((o : List ℕ) → world r (now (tables .exit)) (now (store .exit)) o

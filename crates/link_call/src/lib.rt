@@ -46,7 +46,7 @@ fn refuse(t: Turn, out: &mut [u8], opcode: u8, handle: u16, code: u8) -> Turn
 // A payload of n bytes of the attribute channel: its opcode decides, by value and by range.
 fn on_att(
     t: Turn,
-    tables: &mut [u64; 1056],
+    tables: &mut [u64; 1152],
     store: &mut [u8],
     out: &mut [u8],
     at: Micros,
@@ -94,7 +94,7 @@ fn on_att(
 // A payload of n bytes goes by its channel; other channels get nothing.
 fn on_channel(
     t: Turn,
-    tables: &mut [u64; 1056],
+    tables: &mut [u64; 1152],
     store: &mut [u8],
     out: &mut [u8],
     at: Micros,
@@ -123,7 +123,7 @@ fn on_channel(
 // What is held is a whole frame: it is emptied, the frame is read, and the script goes on.
 fn frame_read(
     t: Turn,
-    tables: &mut [u64; 1056],
+    tables: &mut [u64; 1152],
     store: &mut [u8],
     out: &mut [u8],
     at: Micros,
@@ -144,7 +144,7 @@ fn frame_read(
 // A fragment that is not dropped stands behind what is held; a whole frame is read.
 fn gather(
     t: Turn,
-    tables: &mut [u64; 1056],
+    tables: &mut [u64; 1152],
     store: &mut [u8],
     out: &mut [u8],
     at: Micros,
@@ -167,7 +167,7 @@ fn gather(
 // A fragment that passed the gate.
 fn hear(
     t: Turn,
-    tables: &mut [u64; 1056],
+    tables: &mut [u64; 1152],
     store: &mut [u8],
     out: &mut [u8],
     at: Micros,
@@ -188,7 +188,7 @@ fn hear(
 // A fragment of a frame comes in: it begins one, or goes on with what is held.
 pub fn on_fragment(
     core: Core,
-    tables: &mut [u64; 1056],
+    tables: &mut [u64; 1152],
     store: &mut [u8],
     out: &mut [u8],
     at: Micros,

@@ -26,7 +26,7 @@ const CHARACTERISTIC_SIZE: usize = 7;
 // The characteristics of a service are next.
 fn walk_into(
     t: Turn,
-    tables: &mut [u64; 1056],
+    tables: &mut [u64; 1152],
     store: &mut [u8],
     out: &mut [u8],
     at: Micros,
@@ -47,7 +47,7 @@ fn walk_into(
 // All services are known.
 pub fn services_done(
     t: Turn,
-    tables: &mut [u64; 1056],
+    tables: &mut [u64; 1152],
     store: &mut [u8],
     out: &mut [u8],
     at: Micros,
@@ -70,7 +70,7 @@ pub fn services_done(
 // The entries stand in the table: continue or finish, by the last of them. A service that ends at the last handle is the last.
 fn services_entered(
     t: Turn,
-    tables: &mut [u64; 1056],
+    tables: &mut [u64; 1152],
     store: &mut [u8],
     out: &mut [u8],
     at: Micros,
@@ -93,7 +93,7 @@ fn services_entered(
 // Entries of size bytes: start, end, UUID.
 pub fn services_heard(
     t: Turn,
-    tables: &mut [u64; 1056],
+    tables: &mut [u64; 1152],
     store: &mut [u8],
     out: &mut [u8],
     at: Micros,
@@ -130,7 +130,7 @@ pub fn services_heard(
 // The entries stand in the table: continue or finish. A declaration at the service's end, or past it, is the last.
 fn characteristics_entered(
     t: Turn,
-    tables: &mut [u64; 1056],
+    tables: &mut [u64; 1152],
     store: &mut [u8],
     out: &mut [u8],
     at: Micros,
@@ -156,7 +156,7 @@ fn characteristics_entered(
 // Entries of size bytes: declaration, properties, value handle, UUID.
 fn characteristics_in(
     t: Turn,
-    tables: &mut [u64; 1056],
+    tables: &mut [u64; 1152],
     store: &mut [u8],
     out: &mut [u8],
     at: Micros,
@@ -195,7 +195,7 @@ fn characteristics_in(
 // By the service that the step names.
 pub fn characteristics_heard(
     t: Turn,
-    tables: &mut [u64; 1056],
+    tables: &mut [u64; 1152],
     store: &mut [u8],
     out: &mut [u8],
     at: Micros,
@@ -215,7 +215,7 @@ pub fn characteristics_heard(
 // There are no more: the descriptors are next.
 pub fn characteristics_done(
     t: Turn,
-    tables: &mut [u64; 1056],
+    tables: &mut [u64; 1152],
     store: &mut [u8],
     out: &mut [u8],
     at: Micros,
@@ -238,7 +238,7 @@ pub fn characteristics_done(
 // Within the service there may be more.
 fn go_on(
     t: Turn,
-    tables: &mut [u64; 1056],
+    tables: &mut [u64; 1152],
     store: &mut [u8],
     out: &mut [u8],
     at: Micros,
@@ -259,7 +259,7 @@ fn go_on(
 // Entries of handles and types, by their format.
 fn descriptors_in(
     t: Turn,
-    tables: &mut [u64; 1056],
+    tables: &mut [u64; 1152],
     store: &mut [u8],
     out: &mut [u8],
     at: Micros,
@@ -295,7 +295,7 @@ fn descriptors_in(
 // By the service that the step names.
 pub fn descriptors_heard(
     t: Turn,
-    tables: &mut [u64; 1056],
+    tables: &mut [u64; 1152],
     store: &mut [u8],
     out: &mut [u8],
     at: Micros,
@@ -315,7 +315,7 @@ pub fn descriptors_heard(
 // There are no more in the range that was asked for.
 pub fn range_done(
     t: Turn,
-    tables: &mut [u64; 1056],
+    tables: &mut [u64; 1152],
     store: &mut [u8],
     out: &mut [u8],
     at: Micros,

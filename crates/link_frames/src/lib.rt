@@ -73,7 +73,7 @@ fn held_fits(b: Bearer, start: bool, n: usize) -> bool
 // In their order: 1, 2, 3, then 5, then 7.
 pub fn gate_fragment(
     c: Core,
-    tables: &[u64; 1056],
+    tables: &[u64; 1152],
     store_len: usize,
     out_len: usize,
     at: Micros,
@@ -86,12 +86,14 @@ pub fn gate_fragment(
         return refusal::UNFIT;
     }
     let counts = c.counts;
+    let counters = c.counters;
     let fit = state_fit::tables_fit(
         tables,
         counts.waiting,
         counts.results,
         counts.characteristics,
         counts.notifications,
+        counters.links,
     );
     let sized = state_refusals::sizes_fit(store_len, out_len);
     let late = time::too_late(at);
@@ -99,7 +101,6 @@ pub fn gate_fragment(
     if shared != refusal::ACCEPTED {
         return shared;
     }
-    let counters = c.counters;
     let bearer = c.bearer;
     let full = state_counters::is_full(counters);
     let fits = held_fits(bearer, start, n);

@@ -66,6 +66,7 @@ pub fn asked_by(step: Step, phase: u8) -> Asked
         Step::WaitNotification {
             characteristic: _,
             within_ms: _,
+            age: _,
         } => Asked::Nothing,
         Step::Wait { ms: _ } => Asked::Nothing,
         Step::Disconnect => Asked::Nothing,

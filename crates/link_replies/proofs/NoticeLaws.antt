@@ -1,5 +1,5 @@
 -- A notification that is kept: what the state and the store then are, and that the wait check may look at them.
-use Prim.Native.Nat.{ℕ, _+_, _-_, _≤_}
+use Prim.Native.Nat.{ℕ, _+_, _-_, _≤_, _<_}
 use mathlib.Core.Path.{_≡_, refl, sym, ap, ap₂, subst, _∙_}
 use mathlib.Core.Bool.{Bool, true}
 use mathlib.Core.List.{List}
@@ -27,6 +27,7 @@ use Rattle.script_rules.specs.Wait.{Looks, checkWait}
 use Rattle.link_rules.specs.Payload.{payloadAt, Reads}
 use Rattle.link_rules.specs.Replies.{noted, keepOne, confirmed, notice}
 use Rattle.words.specs.Tables.{Tables, tables, withNotifications}
+use Rattle.state_rules.specs.Fit.{mostNotified}
 use Rattle.words_notification.specs.Kept.{keptIn}
 use Rattle.state_core.specs.declared.Core.{Core}
 use Rattle.state_core.specs.declared.Turn.{Turn}
@@ -34,8 +35,8 @@ use Rattle.state_core.specs.Reading.{centralOf, central, held, world}
 
 -- ---- one is kept
 
-abbrev one : Micros → ℕ → ℕ → Bool → Notification
-one at handle n indication = record { at = at; handle = handle; len = n; indication = indication }
+abbrev one : Micros → ℕ → ℕ → Bool → ℕ → Notification
+one at handle n indication link = record { at = at; handle = handle; len = n; indication = indication; link = link }
 
 abbrev more-heard : Counts → ℕ → Counts
 more-heard n k = record { waiting = n .waiting; results = n .results; services = n .services; characteristics = n .characteristics; notifications = k }
@@ -45,8 +46,8 @@ heard-by c k n = record { running = c .running; bearer = c .bearer; counters = k
 
 pub keep-law : (c : Core) (w w' st st' : List ℕ) (at : Micros) (handle n : ℕ) (indication : Bool) (k : Counters) (more : ℕ)
     → st' ≡ keptValue st (c .counts .notifications) (payloadAt + 3) n
-    → (tables w' ≡ withNotifications (tables w) (keeping (keptIn w (c .counts .notifications)) (one at handle n indication) .kept))
-    × (more ≡ keeping (keptIn w (c .counts .notifications)) (one at handle n indication) .count)
+    → (tables w' ≡ withNotifications (tables w) (keeping (keptIn w (c .counts .notifications)) (one at handle n indication (c .counters .links)) .kept))
+    × (more ≡ keeping (keptIn w (c .counts .notifications)) (one at handle n indication (c .counters .links)) .count)
     → k ≡ noted (c .counters)
     → held (heard-by c k more) w' st' ≡ keepOne (held c w st) at handle n indication
 unfolding keepOne
@@ -70,10 +71,10 @@ module _ (c : Notifications) (x : Notification) where
   fit f h = rw (live-keeping c x) (all-pushed (λ (y : Notification). leb (y .len) valueSize) mostNotifications (live c) x f (le-leb (x .len) valueSize h))
 
 module _ (h : Held) (at : Micros) (handle n : ℕ) (indication : Bool) where
-  looks : Nearly (h .state) → n ≤ valueSize → Looks (keepOne h at handle n indication .state)
+  looks : Nearly (h .state) → n ≤ valueSize → h .state .counters .notified < mostNotified → Looks (keepOne h at handle n indication .state)
   unfolding keepOne
-  looks f m =
-      let x : Notification = one at handle n indication in
+  looks f m room =
+      let x : Notification = one at handle n indication (h .state .counters .links) in
       let c : Notifications = h .state .notifications in
       record {
         results = f .results .few;
@@ -81,6 +82,7 @@ module _ (h : Held) (at : Micros) (handle n : ℕ) (indication : Bool) where
         notifications = few c x;
         values = fit c x (f .heard .values) m;
         kept = counted c x (h .state .counters .notified) (f .tally .kept);
+        notified = omega arith;
       }
 
   as-long : length (keepOne h at handle n indication .store) ≡ length (h .store)
@@ -88,12 +90,12 @@ module _ (h : Held) (at : Micros) (handle n : ℕ) (indication : Bool) where
   as-long = length-kept (h .store) (h .state .notifications .count) (payloadAt + 3) n
 
 module _ (t : Turn) (w st out : List ℕ) (at : Micros) (n : ℕ) (indication : Bool) (q : Reads n (world t w st out)) where
-  pub may-look : (k : Core) (w' st' : List ℕ) (handle : ℕ) → held k w' st' ≡ keepOne (held (t .core) w st) at handle (n - 3) indication
+  pub may-look : t .core .counters .notified < mostNotified → (k : Core) (w' st' : List ℕ) (handle : ℕ) → held k w' st' ≡ keepOne (held (t .core) w st) at handle (n - 3) indication
       → (length st' ≡ storeSize) × Looks (central k w')
-  may-look k w' st' handle e = (
+  may-look room k w' st' handle e = (
     ap (λ (h : Held). length (h .store)) e ∙ as-long (held (t .core) w st) at handle (n - 3) indication ∙ q .ready .store,
     subst (λ (c : Central). Looks c) (sym (ap (λ (h : Held). h .state) e))
-        (looks (held (t .core) w st) at handle (n - 3) indication (q .nearly) (omega (arith, q .short))),
+        (looks (held (t .core) w st) at handle (n - 3) indication (q .nearly) (omega (arith, q .short)) room),
   )
 
   pub notice-law : (k r : Core) (s : Sent) (w' w'' st' st'' out' : List ℕ) (handle : ℕ) → handle ≡ leAt 2 (bytes st payloadAt n) 1

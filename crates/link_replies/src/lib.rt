@@ -53,7 +53,7 @@ pub fn exchange(t: Turn, out: &mut [u8], theirs: u16) -> Turn
 // A notification is kept with its value, the n bytes behind the opcode and the handle; all are counted.
 fn keep_one(
     c: Core,
-    tables: &mut [u64; 1056],
+    tables: &mut [u64; 1152],
     store: &mut [u8],
     at: Micros,
     handle: u16,
@@ -74,6 +74,7 @@ fn keep_one(
         handle,
         len,
         indication,
+        link: counters.links,
     };
     let more = words_notification::keep(tables, count, one);
     counts.notifications = more;
@@ -98,7 +99,7 @@ fn confirm(sent: Sent, out: &mut [u8], indication: bool) -> Sent
 // A payload of n bytes, an opcode and a handle at least: it is kept, and the running wait looks at it.
 pub fn notice(
     t: Turn,
-    tables: &mut [u64; 1056],
+    tables: &mut [u64; 1152],
     store: &mut [u8],
     out: &mut [u8],
     at: Micros,

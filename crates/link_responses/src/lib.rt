@@ -18,7 +18,7 @@ const NOT_FOUND: StepStatus = StepStatus::AttError(err::ATTRIBUTE_NOT_FOUND);
 // There is no such attribute: a walk is at its end; any other step ends with the error.
 fn absent(
     t: Turn,
-    tables: &mut [u64; 1056],
+    tables: &mut [u64; 1152],
     store: &mut [u8],
     out: &mut [u8],
     at: Micros,
@@ -49,7 +49,7 @@ fn absent(
 // An error that is not 'attribute not found' ends the step.
 fn failed(
     t: Turn,
-    tables: &mut [u64; 1056],
+    tables: &mut [u64; 1152],
     store: &mut [u8],
     out: &mut [u8],
     at: Micros,
@@ -68,7 +68,7 @@ fn failed(
 // What the running step does with an answer of n bytes.
 fn present(
     t: Turn,
-    tables: &mut [u64; 1056],
+    tables: &mut [u64; 1152],
     store: &mut [u8],
     out: &mut [u8],
     at: Micros,
@@ -104,7 +104,7 @@ fn present(
 // A response to the running step's request.
 fn taken(
     t: Turn,
-    tables: &mut [u64; 1056],
+    tables: &mut [u64; 1152],
     store: &mut [u8],
     out: &mut [u8],
     at: Micros,
@@ -131,7 +131,7 @@ fn taken(
 // A response of n bytes is there: it counts if it answers the request that is awaited.
 pub fn on_response(
     t: Turn,
-    tables: &mut [u64; 1056],
+    tables: &mut [u64; 1152],
     store: &mut [u8],
     out: &mut [u8],
     at: Micros,

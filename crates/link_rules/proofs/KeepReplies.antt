@@ -19,7 +19,7 @@ use Rattle.l2cap_signaling.specs.Answer.{signalingAnswer, smpAnswer}
 use Rattle.l2cap_signaling.proofs.AnswerLaws.{signaling-sized, smp-sized}
 use Rattle.l2cap_signaling.specs.declared.Update as update
 use Rattle.l2cap_signaling.specs.declared.Update.the-variants as update-variants
-use Rattle.notifications.specs.Kept.{live, valuesFit, keeping}
+use Rattle.notifications.specs.Kept.{live, valuesFit, linksFit, keeping}
 use Rattle.notifications.proofs.KeptLaws.{live-keeping, length-kept}
 use Rattle.notifications.specs.declared.Notification.{Notification}
 use Rattle.notifications.specs.declared.Notifications.{Notifications}
@@ -127,9 +127,13 @@ fit-keeping : (n : Notifications) (x : Notification) → valuesFit (live n) ≡ 
 fit-keeping n x f h =
     ap valuesFit (live-keeping n x) ∙ all-pushed (λ y. leb (y .len) valueSize) mostNotifications (live n) x f (le-leb (x .len) valueSize h)
 
+linked-keeping : (links : ℕ) (n : Notifications) (x : Notification) → linksFit links (live n) ≡ true → x .link ≤ links → linksFit links (live (keeping n x)) ≡ true
+linked-keeping links n x f h =
+    ap (linksFit links) (live-keeping n x) ∙ all-pushed (λ y. leb (y .link) links) mostNotifications (live n) x f (le-leb (x .link) links h)
+
 module _ (h : Held) (at : Micros) (handle n : ℕ) (indication : Bool) (f : Nearly (h .state)) where
   abbrev x : Notification
-  x = record { at = at; handle = handle; len = n; indication = indication }
+  x = record { at = at; handle = handle; len = n; indication = indication; link = h .state .counters .links }
 
   pub stays-keep : n ≤ valueSize → h .state .counters .notified + 1 ≤ mostNotified → Stays h (keepOne h at handle n indication)
   unfolding keepOne
@@ -146,6 +150,8 @@ module _ (h : Held) (at : Micros) (handle n : ℕ) (indication : Bool) (f : Near
             responses = f .heard .responses;
             notifications = few-keeping (h .state .notifications) x;
             values = fit-keeping (h .state .notifications) x (f .heard .values) short;
+            counted = f .heard .counted;
+            links = linked-keeping (h .state .counters .links) (h .state .notifications) x (f .heard .links) (omega arith);
           };
           tally = record {
             kept = omega (arith, count-keeping (h .state .notifications) x, f .tally .kept);

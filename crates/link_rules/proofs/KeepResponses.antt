@@ -207,7 +207,7 @@ module _ (c : Central) (fits : stepFits (c .running .step) (c .running .len) ≡
   allowed (Subscribe characteristic indicate) phase e = tt
   allowed (Write characteristic response) phase e = tt
   allowed (Read characteristic) phase e = tt
-  allowed (WaitNotification characteristic ms) phase e = tt
+  allowed (WaitNotification characteristic ms age) phase e = tt
   allowed (Wait ms) phase e = tt
   allowed Disconnect phase e = tt
   allowed (Capture enabled) phase e = tt
@@ -241,7 +241,7 @@ module _ (k : ℕ) (w : World) (at : Micros) (n : ℕ) (few : k ≤ 64) (l : at 
         after (k + 1) w g (over (onHeld w g) at Ok) s (goes-over k (onHeld w g) (ready-stays k w g ready s) (s .nearly) at Ok)
 
     goes-value : Goes (k + 1) w (valueRead w at n)
-    goes-value = quietly k w (finish (w .held) at Ok (payloadAt + 1) (n - 1)) ready (stays-finish (w .held) at Ok (payloadAt + 1) (n - 1) (omega arith) f)
+    goes-value = quietly k w (finish (w .held) at Ok (payloadAt + 1) (n - 1) 0) ready (stays-finish (w .held) at Ok (payloadAt + 1) (n - 1) 0 (omega arith) f)
 
     goes-present : (q : Asked) → Allowed (w .held .state) q → Goes (k + 1) w (present w at n q)
     unfolding present

@@ -25,7 +25,7 @@ over w at status = onHeld w (ends (w .held) at status)
 
 -- a read's value: the body behind the opcode
 abbrev pub valueRead : World → Micros → ℕ → World
-valueRead w at n = onHeld w (finish (w .held) at Ok (payloadAt + 1) (n - 1))
+valueRead w at n = onHeld w (finish (w .held) at Ok (payloadAt + 1) (n - 1) 0)
 
 -- the state changes
 abbrev pub become : World → Central → World

@@ -56,13 +56,13 @@ exchange w theirs =
 
 -- ---- notifications and indications
 
--- it is kept with its value: n bytes behind the opcode and the handle (Part F 3.4.7)
+-- it is kept with its value, n bytes behind the opcode and the handle (Part F 3.4.7), and with the present link's number (02, One)
 unfoldable pub keepOne : Held → Micros → ℕ → ℕ → Bool → Held
 keepOne h at handle n indication =
     let c = h .state in
     record {
       state = withCounters
-          (withNotifications c (keeping (c .notifications) (record { at = at; handle = handle; len = n; indication = indication })))
+          (withNotifications c (keeping (c .notifications) (record { at = at; handle = handle; len = n; indication = indication; link = c .counters .links })))
           (noted (c .counters));
       store = keptValue (h .store) (c .notifications .count) (payloadAt + 3) n;
     }

@@ -25,6 +25,10 @@ heard s l = valued (λ x. x .len) part s 0 l
 abbrev pub valuesFit : List Notification → Bool
 valuesFit l = fitting (λ x. x .len) valueSize l
 
+-- whether none was heard on a link of a higher number (02, One, fit)
+abbrev pub linksFit : ℕ → List Notification → Bool
+linksFit links l = fitting (λ x. x .link) links l
+
 -- those kept once one more is heard; a place that is not live stays as it is
 unfoldable pub keeping : Notifications → Notification → Notifications
 keeping n x =

@@ -3,18 +3,36 @@ use state_places::MAX_NOTIFICATIONS;
 use state_places::MAX_VALUE;
 use state_places::NOTIFICATIONS_AT;
 use time::Micros;
+use time::Millis;
 ghost use mathlib.Core.Path.{_≡_};
 ghost use mathlib.Core.List.{_++_};
 ghost use Prim.Native.Nat.{_+_, _≤_, _<_};
 ghost use Rattle.state_places.specs.Sizes.{heldAt};
 ghost use Rattle.notifications.specs.Kept.{keptValue, skippedOf};
+ghost use Rattle.notifications.specs.Wait.{recent, counts};
 
-// A notification or an indication; its value stands at its own place of the store.
+// A notification or an indication, with the number of the link that heard it; its value stands at its own place of the store.
 pub struct Notification {
     pub at: Micros,
     pub handle: u16,
     pub len: u8,
     pub indication: bool,
+    pub link: u64,
+}
+
+// How old a notification may be that a wait counts.
+pub enum Age {
+    Any,
+    Within(Millis),
+}
+
+// What a wait goes by: its handle and its age; whether there is a link, and its number; the time of the call.
+pub struct Wanted {
+    pub handle: u16,
+    pub age: Age,
+    pub linked: bool,
+    pub link: u64,
+    pub now: Micros,
 }
 
 // The newest notifications, the oldest first; those from count on are none.
@@ -53,4 +71,28 @@ pub fn skipped(notified: u64, kept: usize, wait_from: u64) -> usize
     }
     let older = wait_from - first;
     older as usize
+}
+
+// Whether it is of the present link, not after now, and at most the age before now.
+fn is_recent(w: Wanted, age: Millis, x: Notification) -> bool
+    ensures { λ r. ⌜ r ≡ recent w age x ⌝ }
+{
+    let now = w.now;
+    let at = x.at;
+    let end = time::deadline(at, age);
+    w.linked & (x.link == w.link) & (at.0 <= now.0) & (now.0 <= end.0)
+}
+
+// Whether a notification counts for a wait.
+pub fn does_count(w: Wanted, x: Notification) -> bool
+    ensures { λ r. ⌜ r ≡ counts w x ⌝ }
+{
+    if x.handle != w.handle {
+        return false;
+    }
+    let age = w.age;
+    match age {
+        Age::Any => true,
+        Age::Within(ms) => is_recent(w, ms, x),
+    }
 }

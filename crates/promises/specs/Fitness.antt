@@ -14,7 +14,7 @@ use Rattle.state.specs.declared.Queue.{Queue}
 use Rattle.state.specs.declared.Queued.{Queued}
 use Rattle.state.specs.declared.Running.{Running}
 use Rattle.state.specs.declared.StepResult.{StepResult}
-use Rattle.state_rules.specs.Fit.{fits, waiting, mostNotified}
+use Rattle.state_rules.specs.Fit.{fits, waiting, mostNotified, mostLinks}
 use Rattle.state_rules.proofs.FitLaws as fit-laws
 use Rattle.state_rules.specs.Gate.{firstRefusal, gate, gateQuiet}
 use Rattle.state_rules.specs.Refusals.{accepted, unfit, badBatch, counterFull, longData, longFrame, keysFull}
@@ -105,6 +105,10 @@ fragment-later true y h = omega arith
 fragment-later false true h = omega arith
 fragment-later false false h = omega arith
 
+connected-later : (x : Bool) → _≡_ {A = ℕ} (pick x counterFull accepted) unfit → ⊥
+connected-later true h = omega arith
+connected-later false h = omega arith
+
 one-later : (x : Bool) (n : ℕ) → (n ≡ unfit → ⊥) → _≡_ {A = ℕ} (pick x accepted n) unfit → ⊥
 one-later true n b h = omega arith
 one-later false n b h = b h
@@ -115,7 +119,9 @@ gate-fit h (batch out at b values) f =
     let g = gate (h .state) (length (h .store)) (length out) at in
     later g (first-fit (fits (h .state)) f _ _) (eqb g accepted) _ (batch-later (batchFits (length values) b) (countersFit (h .state .counters) (h .state .queue .count) (b .count)))
 gate-fit h (timer out at) f = first-fit (fits (h .state)) f _ _
-gate-fit h (connected out handle at) f = first-fit (fits (h .state)) f _ _
+gate-fit h (connected out handle at) f =
+    let g = gate (h .state) (length (h .store)) (length out) at in
+    later g (first-fit (fits (h .state)) f _ _) (eqb g accepted) _ (connected-later (eqb (h .state .counters .links) mostLinks))
 gate-fit h (disconnected at) f = first-fit (fits (h .state)) f _ _
 gate-fit h (advertising v) f =
     let g = gateQuiet (h .state) (length (h .store)) (v .at) in

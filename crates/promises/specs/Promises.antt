@@ -3,22 +3,26 @@
 -- `taken`: every step ever taken in, counted from the calls; `log`: every result ever given, dropped ones too, with its value, read off the
 -- tables of the worlds that the calls pass through (thm_trail/specs/Log.antt). `heard`: what came in, from the calls and their refusals alone
 -- (thm_heard/specs/Heard.antt; `silence`: no link yet). `events`: what came in, the requests among the bytes written, and the results, in
--- their order (thm_heard/specs/Events.antt). `OnWire`: thm_wire/specs/Wire.antt. `handedIn`, `noticed`: thm_counts/specs/Tally.antt.
+-- their order (thm_heard/specs/Events.antt). `OnWire`: thm_wire/specs/Wire.antt. `handedIn`, `noticed`, `linksCame`: thm_counts/specs/Tally.antt.
+-- `brought`, `noticesOf`, `linksOf`: everything heard, and how many links there were, from the calls and their refusals alone
+-- (thm_waits/specs/Notices.antt). `waitFrom`, `valuesOf`, `Passed`, `Names`: thm_waits/specs/Waits.antt.
 use Prim.Native.Nat.{ℕ, zero, suc, _+_, _-_, _<_}
 use mathlib.Core.Path.{_≡_, sym, ap, _∙_}
 use mathlib.Core.Bool.{true}
-use mathlib.Core.List.{List, [], _∷_}
+use mathlib.Core.List.{List, [], _∷_, _++_}
 use native.Mathlib.Omega.{arith}
 use lib.ListN.{length, drop, getD, length-drop}
 use borrow.Author.Tests.{eq-eqb}
-use Rattle.state_places.specs.Sizes.{storeSize, mostResults}
+use Rattle.state_places.specs.Sizes.{storeSize, mostResults, mostNotifications}
 use Rattle.lists.specs.Queue.{newest}
 use Rattle.lists.specs.Blocks.{Valued}
 use Rattle.time.specs.declared.Micros.{Micros}
+use Rattle.time.specs.declared.Millis.{Millis}
 use Rattle.uuid.specs.declared.Uuid.{Uuid}
+use Rattle.notifications.specs.declared.Age.the-variants.{Within}
 use Rattle.state.specs.Fresh.{noQueued}
 use Rattle.state.specs.declared.StepResult.{StepResult}
-use Rattle.state.specs.declared.Step.the-variants.{Read}
+use Rattle.state.specs.declared.Step.the-variants.{Read, WaitNotification}
 use Rattle.state.specs.declared.StepStatus.the-variants.{Ok}
 use Rattle.state_rules.specs.Fit.{fits, awaits}
 use Rattle.state_rules.specs.Refusals.{accepted, unfit}
@@ -31,7 +35,7 @@ use Rattle.thm_accounting.specs.InLine.{inLine}
 use Rattle.thm_accounting.proofs.Numbered.{Numbered}
 use Rattle.thm_accounting.proofs.Accounting.{books}
 use Rattle.thm_accounting.proofs.Times as times
-use Rattle.thm_counts.specs.Tally.{handedIn, noticed}
+use Rattle.thm_counts.specs.Tally.{handedIn, noticed, linksCame}
 use Rattle.thm_counts.proofs.Counted as tally
 use Rattle.thm_wire.specs.Wire.{OnWire}
 use Rattle.thm_wire.proofs.OnWire.{on-wire}
@@ -40,8 +44,11 @@ use Rattle.thm_heard.specs.Heard.{silence, heard}
 use Rattle.thm_heard.specs.Events.{events}
 use Rattle.thm_heard.proofs.Sequences as calls
 use Rattle.thm_requests.specs.Turn.{InTurn}
-use Rattle.thm_links.specs.Keeps.{Keeps, KeepsButStarts}
+use Rattle.thm_links.specs.Keeps.{keptNotifications, Keeps, KeepsButStarts}
 use Rattle.thm_links.proofs.Links as links
+use Rattle.thm_waits.specs.Notices.{brought, noticesOf, linksOf}
+use Rattle.thm_waits.specs.Waits.{waitFrom, valuesOf, Passed, Names}
+use Rattle.thm_waits.proofs.Sequences as waits
 use Rattle.thm_readers.specs.Said.{said, deadlineOf, Heeds, linkAfter, refusals, SaysResults}
 use Rattle.thm_readers.proofs.Results as readers
 use Rattle.thm_readers.proofs.Timers.{heeds}
@@ -95,18 +102,22 @@ module _ (store : List ℕ) (cs : List Call) where
   pub never-unfit : fitness.Typed cs → (c : Call) → does (run (fresh store) cs) c .refusal ≡ unfit → ⊥
   never-unfit = fitness.never-unfit store cs
 
-  -- 7. Two counts are the calls' own: the steps handed in that found no place, and the notifications and indications that were heard.
+  -- 7. Three counts are the calls' own: the steps handed in that found no place, the notifications and indications that were heard, and the
+  -- links that came.
   pub refused-counted : run (fresh store) cs .state .counters .«refused_steps» + length (taken (fresh store) cs) ≡ handedIn (fresh store) cs
   refused-counted = tally.refused-counted store cs
 
   pub notified-counted : run (fresh store) cs .state .counters .notified ≡ noticed (heard silence (fresh store) cs)
   notified-counted = calls.notified-counted store cs
 
+  pub links-counted : run (fresh store) cs .state .counters .links ≡ linksCame (heard silence (fresh store) cs)
+  links-counted = calls.links-counted store cs
+
   -- 8. A lost link keeps both tables, the notifications with their bytes, `notified` and `wait_from`;
   pub lost-link-keeps : (at : Micros) → let h = run (fresh store) cs in Keeps h (left (does h (disconnected at)))
   lost-link-keeps at = links.disconnected-keeps (run (fresh store) cs) at
 
-  -- so does a new one, but for what a step that it starts does by its own rule. (thm_links/specs/Keeps.antt)
+  -- so does a new one, but for what a step that it starts does by its own rule, and it is counted. (thm_links/specs/Keeps.antt)
   pub new-link-keeps : (out : List ℕ) (handle : ℕ) (at : Micros) → let h = run (fresh store) cs in does h (connected out handle at) .refusal ≡ accepted
       → KeepsButStarts h at (left (does h (connected out handle at)))
   new-link-keeps out handle at e =
@@ -144,3 +155,33 @@ module _ (store : List ℕ) (cs : List Call) where
   -- 11. A request has the number of the step that sent it, which is its place in the order taken in: as many results were given before.
   pub requests-in-turn : InTurn (taken (fresh store) cs) 0 (events silence (fresh store) cs)
   requests-in-turn = calls.requests-in-turn store cs
+
+  -- 12. The notifications that are kept are the newest 32 of everything heard, each with the time of the call that brought its last byte, the
+  -- number of its link, its handle, and its value in the store;
+  pub kept-heard : keptNotifications (run (fresh store) cs) ≡ newest mostNotifications (noticesOf store cs)
+  kept-heard = waits.kept-heard store cs
+
+  -- `notified` is how many were heard, `links` how many connected calls were accepted,
+  pub notified-heard : run (fresh store) cs .state .counters .notified ≡ length (noticesOf store cs)
+  notified-heard = waits.notified-heard store cs
+
+  pub links-numbered : run (fresh store) cs .state .counters .links ≡ linksOf store cs
+  links-numbered = waits.links-counted store cs
+
+  -- and `wait_from` how many were heard when a wait last passed, aged or not.
+  pub wait-from-counted : run (fresh store) cs .state .counters .«wait_from» ≡ waitFrom store cs
+  wait-from-counted = waits.wait-from-counted store cs
+
+  -- 13. An aged wait ends Ok only on one or more notifications that count: heard on the link that is present, at most the age before the call that
+  -- ends the wait and not after it, from `wait_from` on, on the value of its characteristic as known during that call. Its result names the
+  -- newest of them; their values, joined, contain the step's `contains`, as its batch handed it in.
+  pub aged-wait : (c : Call) (i : ℕ) → let given = givenBy (run (fresh store) cs) c in i < length given
+      → let x = getD given i noValued .entry in let all = cs ++ (c ∷ []) in (u : Uuid) (ms age : Millis)
+      → getD (taken (fresh store) all) (x .index) noQueued .step ≡ WaitNotification u ms (Within age) → x .status ≡ Ok
+      → Passed (run (fresh store) cs) c (brought store all) (waitFrom store cs) u age (getD (valuesOf (fresh store) all) (x .index) []) x
+  aged-wait = waits.aged-wait store cs
+
+  -- Every other result names none: its `heard` is 0.
+  pub heard-of-waits-alone : (c : Call) (i : ℕ) → let given = givenBy (run (fresh store) cs) c in i < length given
+      → let x = getD given i noValued .entry in Names (getD (taken (fresh store) (cs ++ (c ∷ []))) (x .index) noQueued .step) x
+  heard-of-waits-alone = waits.heard-of-waits-alone store cs

@@ -22,7 +22,7 @@ unfoldable pub knowing : Central
 unfolding freshCentral
 knowing =
     record {
-      counters = record { «next_index» = 1; «refused_steps» = 0; notified = 0; «wait_from» = 0 };
+      counters = record { «next_index» = 1; «refused_steps» = 0; notified = 0; «wait_from» = 0; links = 1 };
       queue = record { kept = record { step = DiscoverCharacteristics battery; len = 0 } ∷ replicate 63 noQueued; count = 0 };
       running = record {
         deadline = at 30000004;
@@ -35,7 +35,7 @@ knowing =
         dated = true;
       };
       keys = freshCentral .keys;
-      results = record { kept = record { index = 0; at = at 5; status = Ok; len = 0 } ∷ replicate 63 noResult; count = 1 };
+      results = record { kept = record { index = 0; at = at 5; status = Ok; len = 0; heard = 0 } ∷ replicate 63 noResult; count = 1 };
       reports = freshCentral .reports;
       bearer = record { held = 0; link = record { handle = 64; mtu = 23; pending = 0; terminating = false }; present = true };
       services = record { kept = record { start = 0xFFFD; end = 0xFFFF; uuid = battery } ∷ replicate 31 zero-service; count = 1 };

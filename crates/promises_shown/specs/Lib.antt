@@ -7,3 +7,5 @@ pub mod Logged
 pub mod Reading
 pub mod Untrue
 pub mod UntrueToo
+pub mod Waiting
+pub mod UntrueWaits

@@ -37,7 +37,7 @@ use Rattle.thm_trail.specs.Calls.{blank}
 use Rattle.thm_trail.specs.Log.{upTo, newer}
 use Rattle.thm_trail.specs.Trail.{onwards, timerTrail, connectedTrail, disconnectedTrail, fragmentTrail}
 use Rattle.notifications.specs.Kept.{keeping}
-use Rattle.notifications.specs.Wait.{any, seen, starts, contains, passes}
+use Rattle.notifications.specs.Wait.{counts, any, seen, starts, contains, passes, newestCounted}
 use Rattle.adv_reports.specs.Key.{key, seek}
 use Rattle.adv_reports.specs.Reports.{heardFirst}
 use Rattle.radio_match.specs.Matching.{listens, asks, reaches, chosen}
@@ -165,11 +165,13 @@ unfolding
     disconnectedTrail
     fragmentTrail
     keeping
+    counts
     any
     seen
     starts
     contains
     passes
+    newestCounted
     key
     seek
     heardFirst

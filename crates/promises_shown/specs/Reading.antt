@@ -30,10 +30,10 @@ awaited = refl
 
 -- the discovery's result and the Read's
 abbrev pub found : Valued StepResult
-found = record { entry = record { index = 0; at = at 5; status = Ok; len = 0 }; value = [] }
+found = record { entry = record { index = 0; at = at 5; status = Ok; len = 0; heard = 0 }; value = [] }
 
 abbrev pub readOut : Valued StepResult
-readOut = record { entry = record { index = 1; at = at 7; status = Ok; len = 1 }; value = 0x64 ∷ [] }
+readOut = record { entry = record { index = 1; at = at 7; status = Ok; len = 1; heard = 0 }; value = 0x64 ∷ [] }
 
 -- what happened: read by group type, read by type twice, read, with their answers
 abbrev pub before : List Event

@@ -8,6 +8,7 @@ use Rattle.time.specs.declared.Micros.{Micros}
 use Rattle.time.specs.declared.Millis.{Millis}
 use Rattle.uuid.specs.Value.{shortOf}
 use Rattle.uuid.specs.declared.Uuid.{Uuid}
+use Rattle.notifications.specs.declared.Age.the-variants.{Any}
 use Rattle.l2cap.specs.Numbers.{cidAtt}
 use Rattle.l2cap.specs.Frame.{l2capFrame}
 use Rattle.state.specs.declared.Address.{Address}
@@ -17,7 +18,7 @@ use Rattle.script_rules.specs.declared.Batch.{Batch}
 use Rattle.script_rules.specs.declared.Placed.{Placed}
 use Rattle.radio_rules.specs.Hearing as radio
 use Rattle.radio_match.specs.Matching.{advInd}
-use Rattle.thm_trail.specs.Calls.{timerUs, connectedHandle, resultOf, Call, batch, timer, connected, disconnected, advertising, scanResponse, fragment, reads}
+use Rattle.thm_trail.specs.Calls.{timerUs, connectedHandle, resultOf, passedOn, Call, batch, timer, connected, disconnected, advertising, scanResponse, fragment, reads}
 
 abbrev pub store : List ℕ
 store = replicate storeSize 0
@@ -64,7 +65,7 @@ said n bytes = radio.adv (at 2) 37 advInd (address n) bytes false
 abbrev pub heard : ℕ → List ℕ → Call
 heard n bytes = advertising (said n bytes)
 
--- each of the ten
+-- each of the eleven
 abbrev pub each : List Call
 each =
     step 1 (Wait (ms 1))
@@ -77,6 +78,7 @@ each =
     ∷ reads timerUs
     ∷ reads connectedHandle
     ∷ reads (resultOf 0)
+    ∷ reads (passedOn 0)
     ∷ []
 
 -- ---- a link comes; an MTU is asked for, at once or behind a step that is done at once
@@ -129,7 +131,7 @@ reading = step 6 (Read level) ∷ att 7 answer ∷ []
 
 -- 65 frames in one call: an indication is confirmed, ends the wait for it, and 64 commands go out
 abbrev pub fills : List Call
-fills = step 6 (WaitNotification level (ms 1000)) ∷ sixtyFour 7 (Write level false) ∷ []
+fills = step 6 (WaitNotification level (ms 1000) Any) ∷ sixtyFour 7 (Write level false) ∷ []
 
 abbrev pub indication : Call
 indication = att 8 (0x1D ∷ 0xFF ∷ 0xFF ∷ [])

@@ -19,7 +19,7 @@ use Rattle.state.specs.declared.Step.the-variants.{Read, Wait, Capture}
 use Rattle.state.specs.declared.StepStatus.the-variants.{Ok}
 use Rattle.state_rules.specs.Fit.{awaits, fits}
 use Rattle.script_rules.specs.World.{Held, World}
-use Rattle.thm_trail.specs.Calls.{Call, batch, timer, does, left, fresh, run, done?}
+use Rattle.thm_trail.specs.Calls.{Call, batch, timer, disconnected, does, left, fresh, run, done?}
 use Rattle.thm_trail.specs.Trail.{News, link-came, link-went, att-heard, Pass, begins, goes}
 use Rattle.thm_trail.specs.Log.{keptResults, noValued, gave, log, taken}
 use Rattle.thm_accounting.specs.InLine.{inLine}
@@ -29,7 +29,7 @@ use Rattle.thm_requests.specs.Events.{Event, came, asked, result, askedIn, news
 use Rattle.thm_heard.specs.Heard.{Air, silence, after, news, heard}
 use Rattle.thm_heard.specs.Events.{events}
 use Rattle.promises.specs.Fitness.{Typed}
-use Rattle.promises_shown.specs.Sequences.{store, out, at, ms, placed, only, step, sixtyFour, asking, askingSecond, told, level, known, reading, fills, indication, widens, command}
+use Rattle.promises_shown.specs.Sequences.{store, out, at, ms, placed, only, step, sixtyFour, linked, asking, askingSecond, told, level, known, reading, fills, indication, widens, command}
 use Rattle.promises_shown.specs.Refusals.{refuses}
 use Rattle.promises_shown.specs.Known.{knowing, knownStore, knows, from-there}
 use Rattle.promises_shown.specs.Reading.{read-taken, read-logged, happened}
@@ -194,6 +194,27 @@ one-brief = record { notified-is = refl; briefs-is = refl }
 
 pub notices-of-two-bytes : ((store : List ℕ) (cs : List Call) → run (fresh store) cs .state .counters .notified ≡ briefs (heard silence (fresh store) cs)) → ⊥
 notices-of-two-bytes p = omega (arith, sym (one-brief .notified-is) ∙ p store told ∙ one-brief .briefs-is)
+
+-- links that came, and links that went
+abbrev pub comingsAndGoings : List News → ℕ
+comingsAndGoings [] = 0
+comingsAndGoings (link-came handle ∷ l) = 1 + comingsAndGoings l
+comingsAndGoings (link-went ∷ l) = 1 + comingsAndGoings l
+comingsAndGoings (att-heard p ∷ l) = comingsAndGoings l
+
+abbrev parted : List Call
+parted = linked ++ (disconnected (at 2) ∷ [])
+
+record Parted : Type 0 where
+  links-is : run (fresh store) parted .state .counters .links ≡ 1
+  both-is : comingsAndGoings (heard silence (fresh store) parted) ≡ 2
+
+one-parted : Parted
+unfolding opened
+one-parted = record { links-is = refl; both-is = refl }
+
+pub lost-links-are-counted-too : ((store : List ℕ) (cs : List Call) → run (fresh store) cs .state .counters .links ≡ comingsAndGoings (heard silence (fresh store) cs)) → ⊥
+lost-links-are-counted-too p = omega (arith, sym (one-parted .links-is) ∙ p store parted ∙ one-parted .both-is)
 
 -- ---- requests: an event that must be there is not
 

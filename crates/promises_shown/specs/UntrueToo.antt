@@ -293,6 +293,21 @@ pub lost-link-moves-wait-from :
     left (does h (disconnected at)) .state .counters .«wait_from» ≡ h .state .counters .notified) → ⊥
 lost-link-moves-wait-from p = omega (arith, sym (lost .from-is) ∙ p store notifiedOnce (at 3) ∙ lost .notified-is)
 
+-- a link comes
+record Came : Type 0 where
+  accepted-is : does (run (fresh store) []) (connected out 64 (at 1)) .refusal ≡ accepted
+  before-is : run (fresh store) [] .state .counters .links ≡ 0
+  after-is : left (does (run (fresh store) []) (connected out 64 (at 1))) .state .counters .links ≡ 1
+
+one-came : Came
+unfolding opened
+one-came = record { accepted-is = refl; before-is = refl; after-is = refl }
+
+pub new-link-is-not-counted :
+    ((store : List ℕ) (cs : List Call) (out : List ℕ) (handle : ℕ) (at : Micros) → let h = run (fresh store) cs in
+    does h (connected out handle at) .refusal ≡ accepted → left (does h (connected out handle at)) .state .counters .links ≡ h .state .counters .links) → ⊥
+new-link-is-not-counted p = omega (arith, sym (one-came .after-is) ∙ p store [] out 64 (at 1) (one-came .accepted-is) ∙ one-came .before-is)
+
 -- the battery service is known; the link is lost, a Connect runs, and a DiscoverServices waits
 abbrev seeks : List Call
 seeks = disconnected (at 6) ∷ both 7 (placed (Connect Any 24 0 400 (ms 1000)) 0) (placed DiscoverServices 0) [] ∷ []
@@ -309,7 +324,7 @@ startsQuietlyToo (DiscoverCharacteristics service) = true
 startsQuietlyToo (Subscribe characteristic indicate) = true
 startsQuietlyToo (Write characteristic response) = true
 startsQuietlyToo (Read characteristic) = true
-startsQuietlyToo (WaitNotification characteristic ms) = false
+startsQuietlyToo (WaitNotification characteristic ms age) = false
 startsQuietlyToo (Wait ms) = true
 startsQuietlyToo Disconnect = true
 startsQuietlyToo (Capture enabled) = true

@@ -39,7 +39,7 @@ struct Kept {
 // ---- the report
 
 // At place i; where there is no such place, at the last, and the oldest goes.
-fn put_line(tables: &mut [u64; 1056], i: usize, x: Report)
+fn put_line(tables: &mut [u64; 1152], i: usize, x: Report)
     requires { ⌜ (x .len ≤ dataSize) × (x .response ≤ noResponse) ⌝ }
     ensures { λ _. ⌜ all.tables (now (tables .exit)) ≡ lineAt (all.tables (now (tables .entry))) i x ⌝ }
 {
@@ -52,7 +52,7 @@ fn put_line(tables: &mut [u64; 1056], i: usize, x: Report)
 }
 
 // The scan response of a known report stays; a new one has none.
-fn kept_response(tables: &[u64; 1056], count: usize, i: usize) -> u8
+fn kept_response(tables: &[u64; 1152], count: usize, i: usize) -> u8
     requires { ⌜ count ≤ mostReports ⌝ }
     ensures { λ r. ⌜ (r ≡ keptResponse (heardIn (now (tables .entry)) .response) count i) × (r ≤ noResponse) ⌝ }
 {
@@ -65,7 +65,7 @@ fn kept_response(tables: &[u64; 1056], count: usize, i: usize) -> u8
 
 // The advertiser's report is updated, or is a new one.
 fn keep(
-    tables: &mut [u64; 1056],
+    tables: &mut [u64; 1152],
     store: &mut [u8],
     count: usize,
     key: u64,
@@ -115,7 +115,7 @@ fn unchanged(core: Core, refusal: u8) -> Advertised
 // An advertisement.
 pub fn on_advertising(
     core: Core,
-    tables: &mut [u64; 1056],
+    tables: &mut [u64; 1152],
     store: &mut [u8],
     at: Micros,
     channel: u8,
@@ -177,7 +177,7 @@ pub fn on_advertising(
 // A scan response goes to its advertiser's report.
 pub fn on_scan_response(
     core: Core,
-    tables: &mut [u64; 1056],
+    tables: &mut [u64; 1152],
     store: &mut [u8],
     at: Micros,
     address: Address,

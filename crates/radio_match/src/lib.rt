@@ -151,6 +151,7 @@ pub fn choose(
         Step::WaitNotification {
             characteristic: _,
             within_ms: _,
+            age: _,
         } => AdvAction::Nothing,
         Step::Wait { ms: _ } => AdvAction::Nothing,
         Step::Disconnect => AdvAction::Nothing,

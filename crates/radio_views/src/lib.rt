@@ -48,7 +48,7 @@ fn response_in(i: usize, len: u8) -> Response
 }
 
 // Report i.
-pub fn report(core: Core, tables: &[u64; 1056], store: &[u8], i: usize) -> Seen
+pub fn report(core: Core, tables: &[u64; 1152], store: &[u8], i: usize) -> Seen
     ensures { λ r. ⌜ r ≡ view (central core (now (tables .entry))) (length (now (store .entry))) i ⌝ }
 {
     let why = state_fit::gate_reader(core, tables, store.len());
@@ -77,7 +77,7 @@ pub fn report(core: Core, tables: &[u64; 1056], store: &[u8], i: usize) -> Seen
 // ---- where its bytes stand
 
 // Where the advertising data of report i stands.
-pub fn report_data_at(core: Core, tables: &[u64; 1056], store: &[u8], i: usize) -> Spot
+pub fn report_data_at(core: Core, tables: &[u64; 1152], store: &[u8], i: usize) -> Spot
     ensures { λ r. ⌜ r ≡ dataSeen (view (central core (now (tables .entry))) (length (now (store .entry))) i) ⌝ }
 {
     match report(core, tables, store, i) {
@@ -100,7 +100,7 @@ fn response_spot(x: Response) -> Spot
 }
 
 // Where the scan response of report i stands: nowhere, if it has none.
-pub fn report_response_at(core: Core, tables: &[u64; 1056], store: &[u8], i: usize) -> Spot
+pub fn report_response_at(core: Core, tables: &[u64; 1152], store: &[u8], i: usize) -> Spot
     ensures { λ r. ⌜ r ≡ responseSeen (view (central core (now (tables .entry))) (length (now (store .entry))) i) ⌝ }
 {
     match report(core, tables, store, i) {
@@ -144,7 +144,7 @@ fn body_in(store: &[u8], data: Span, answer: Span, uuid: Uuid) -> Spot
 }
 
 // Where the body of the structure of report i stands that lists the service, of its data or else of its scan response: nowhere, if none does.
-pub fn report_body_at(core: Core, tables: &[u64; 1056], store: &[u8], i: usize, uuid: Uuid) -> Spot
+pub fn report_body_at(core: Core, tables: &[u64; 1152], store: &[u8], i: usize, uuid: Uuid) -> Spot
     ensures { λ r. ⌜ r ≡ bodySpot (num uuid) (now (store .entry)) (view (central core (now (tables .entry))) (length (now (store .entry))) i) ⌝ }
 {
     let x = report(core, tables, store, i);
@@ -160,7 +160,7 @@ pub fn report_body_at(core: Core, tables: &[u64; 1056], store: &[u8], i: usize, 
 // ---- the bytes themselves
 
 // The advertising data of report i, or no bytes.
-pub fn report_data<'a>(core: Core, tables: &[u64; 1056], store: &'a [u8], i: usize) -> &'a [u8]
+pub fn report_data<'a>(core: Core, tables: &[u64; 1152], store: &'a [u8], i: usize) -> &'a [u8]
     ensures { λ r. ⌜ now r ≡ part (now (store .entry)) (dataIn (view (central core (now (tables .entry))) (length (now (store .entry))) i)) ⌝ }
     ensures { λ r. ⌜ r .ptr ≡ partAt (store .entry .ptr) (dataIn (view (central core (now (tables .entry))) (length (now (store .entry))) i)) ⌝ }
 {
@@ -171,7 +171,7 @@ pub fn report_data<'a>(core: Core, tables: &[u64; 1056], store: &'a [u8], i: usi
 }
 
 // The scan response of report i, or no bytes.
-pub fn report_response<'a>(core: Core, tables: &[u64; 1056], store: &'a [u8], i: usize) -> &'a [u8]
+pub fn report_response<'a>(core: Core, tables: &[u64; 1152], store: &'a [u8], i: usize) -> &'a [u8]
     ensures { λ r. ⌜ now r ≡ part (now (store .entry)) (answerIn (view (central core (now (tables .entry))) (length (now (store .entry))) i)) ⌝ }
     ensures { λ r. ⌜ r .ptr ≡ partAt (store .entry .ptr) (answerIn (view (central core (now (tables .entry))) (length (now (store .entry))) i)) ⌝ }
 {
@@ -184,7 +184,7 @@ pub fn report_response<'a>(core: Core, tables: &[u64; 1056], store: &'a [u8], i:
 // The body of the structure of report i that lists the service: of its data, or else of its scan response.
 pub fn report_body<'a>(
     core: Core,
-    tables: &[u64; 1056],
+    tables: &[u64; 1152],
     store: &'a [u8],
     i: usize,
     uuid: Uuid,

@@ -31,6 +31,7 @@ pub fn alone_with(step: Step) -> Alone
         Step::WaitNotification {
             characteristic: _,
             within_ms: _,
+            age: _,
         } => Alone::NeedsLink,
         Step::Wait { ms } => Alone::Runs(ms),
         Step::Disconnect => Alone::NeedsLink,

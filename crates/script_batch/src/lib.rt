@@ -12,7 +12,7 @@ use time::Micros;
 // In their order: 1, 2, 3, then 4, then 5.
 fn gate_batch(
     c: Core,
-    tables: &[u64; 1056],
+    tables: &[u64; 1152],
     store_len: usize,
     out_len: usize,
     at: Micros,
@@ -39,7 +39,7 @@ fn gate_batch(
 // A batch of steps waits behind the others, and the script goes on.
 pub fn push_steps(
     core: Core,
-    tables: &mut [u64; 1056],
+    tables: &mut [u64; 1152],
     store: &mut [u8],
     out: &mut [u8],
     at: Micros,

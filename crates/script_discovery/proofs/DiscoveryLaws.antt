@@ -48,7 +48,7 @@ module _ (t : Turn) (w st out : List ℕ) (at : Micros) (svc : Service) (from : 
   by-range k h = ap (askRange (world t w st out) at) (sym h ∙ f)
 
   pub none-left : (r : Turn) (w' st' : List ℕ) → g ≡ Nothing
-      → ((o : List ℕ) → world r w' st' o ≡ onHeld (world t w st o) (finish (held (t .core) w st) at Ok heldAt 0))
+      → ((o : List ℕ) → world r w' st' o ≡ onHeld (world t w st o) (finish (held (t .core) w st) at Ok heldAt 0 0))
       → world r w' st' out ≡ discoverDescriptors (world t w st out) at svc from
   unfolding askRange
   none-left r w' st' h p = p out ∙ by-range Nothing h

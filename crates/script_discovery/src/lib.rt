@@ -51,7 +51,7 @@ pub fn discover_services(t: Turn, out: &mut [u8], at: Micros, from: u16) -> Turn
 // The descriptors of a service from a handle on; the step is done where there are none to ask for.
 pub fn discover_descriptors(
     t: Turn,
-    tables: &mut [u64; 1056],
+    tables: &mut [u64; 1152],
     store: &mut [u8],
     out: &mut [u8],
     at: Micros,
@@ -79,7 +79,7 @@ pub fn discover_descriptors(
 // The characteristics of a service from a handle on; past its end, its descriptors.
 pub fn discover_characteristics(
     t: Turn,
-    tables: &mut [u64; 1056],
+    tables: &mut [u64; 1152],
     store: &mut [u8],
     out: &mut [u8],
     at: Micros,

@@ -1,15 +1,16 @@
 -- What the events ask of what they call, and what each of their returns asks.
-use Prim.Native.Nat.{ℕ}
-use mathlib.Core.Path.{_≡_, refl, sym, ap, subst, _∙_}
+use Prim.Native.Nat.{ℕ, _<_}
+use mathlib.Core.Path.{_≡_, refl, sym, ap, ap₂, subst, _∙_}
 use mathlib.Core.Bool.{Bool, true, false, _||_}
 use mathlib.Core.List.{List}
 use Rattle.bytes.specs.Choice.{pick}
 use Rattle.time.specs.declared.Micros.{Micros}
-use Rattle.state.specs.Central.{withBearer}
 use Rattle.state.specs.declared.Bearer.{Bearer}
+use Rattle.state.specs.declared.Counters.{Counters}
 use Rattle.state.specs.declared.Step.{Step}
 use Rattle.state.specs.declared.StepStatus.{StepStatus}
 use Rattle.state.specs.declared.StepStatus.the-variants.{Ok}
+use Rattle.state_counters.specs.Counters.{mostLinks}
 use Rattle.script_rules.specs.World.{Held, World, onHeld, onState}
 use Rattle.script_rules.specs.Start.{ends}
 use Rattle.script_rules.specs.Sound.{Sound, Whole}
@@ -18,7 +19,7 @@ use Rattle.script_rules.specs.Script.{advance}
 use Rattle.script_rules.specs.Unlinked.{advanceUnlinked}
 use Rattle.script_rules.proofs.UnlinkedLaws.{present-finish, advance-unlinked}
 use Rattle.script_rules.proofs.CallBeginLaws.{sound-stays, whole-stays}
-use Rattle.script_rules.specs.Comings.{timedOut, due, expire, linked, isConnect, greeted, connect, unlinked, goesOn, cutStatus, cutOff, silent, lose}
+use Rattle.script_rules.specs.Comings.{timedOut, due, expire, isConnect, greeted, linkCounted, withNewLink, connect, unlinked, goesOn, cutStatus, cutOff, silent, lose}
 use Rattle.script_rules.proofs.KeepEvents.{stays-met, stays-lost}
 use Rattle.link_record.specs.Record.{newLink, withLink}
 use Rattle.state_core.specs.declared.Core.{Core}
@@ -86,22 +87,22 @@ module _ (c : Core) (w st : List ℕ) (at : Micros) (b : Bool) where
 
 -- ---- a link comes
 
--- the bearer's record is a new link's, nothing is held, and there is a link
-abbrev come : Core → Bearer → Core
-come c b = reading.withBearer c (record { held = 0; link = b .link; present = true })
+-- the bearer's record is a new link's, nothing is held, there is a link, and it is counted
+abbrev come : Core → Bearer → Counters → Core
+come c b k = reading.withCounters (reading.withBearer c (record { held = 0; link = b .link; present = true })) k
 
 module _ (t : Turn) (w st out : List ℕ) (handle : ℕ) (at : Micros) (b : Bearer) (eb : b ≡ withLink (t .core .bearer) (newLink handle))
-    (n : Core) (w₁ st₁ : List ℕ) (en : held n w₁ st₁ ≡ greeted (held (come (t .core) b) w st) at) where
+    (k : Counters) (ek : k ≡ linkCounted (t .core .counters)) (n : Core) (w₁ st₁ : List ℕ) (en : held n w₁ st₁ ≡ greeted (held (come (t .core) b k) w st) at) where
   met : world (turned t n) w₁ st₁ out
-      ≡ onHeld (world t w st out) (greeted (onState (held (t .core) w st) (withBearer (central (t .core) w) (linked handle))) at)
+      ≡ onHeld (world t w st out) (greeted (onState (held (t .core) w st) (withNewLink (central (t .core) w) handle)) at)
   met =
       ap (λ (i : Held). onHeld (world t w st out) i)
-      (en ∙ ap (λ (y : Bearer). greeted (held (come (t .core) y) w st) at) eb)
+      (en ∙ ap₂ (λ (y : Bearer) (z : Counters). greeted (held (come (t .core) y z) w st) at) eb ek)
 
-  pub connect-may : Sound 65 (world t w st out) → Sound 65 (world (turned t n) w₁ st₁ out)
-  connect-may k =
+  pub connect-may : Sound 65 (world t w st out) → t .core .counters .links < mostLinks → Sound 65 (world (turned t n) w₁ st₁ out)
+  connect-may s l =
       subst (λ (v : World). Sound 65 v) (sym met)
-      (sound-stays 65 (world t w st out) _ k (stays-met (held (t .core) w st) handle at (k .nearly)))
+      (sound-stays 65 (world t w st out) _ s (stays-met (held (t .core) w st) handle at l (s .nearly)))
 
   pub connect-done : (r : Turn) (w₂ st₂ out₂ : List ℕ) → world r w₂ st₂ out₂ ≡ advance (world (turned t n) w₁ st₁ out) at
       → world r w₂ st₂ out₂ ≡ connect (world t w st out) handle at
@@ -120,7 +121,7 @@ absent h at s e = go (goesOn s)
   where
     go : (b : Bool) → pick b h (ends h at (cutStatus s)) .state .bearer .present ≡ false
     go true = e
-    go false = present-finish h at (cutStatus s) _ 0 ∙ e
+    go false = present-finish h at (cutStatus s) _ 0 0 ∙ e
 
 module _ (c : Core) (w st : List ℕ) (at : Micros) (n : Core) (w₁ st₁ : List ℕ) (en : held n w₁ st₁ ≡ cutOff (held (gone c) w st) at (c .running .step)) where
   pub lose-may : Whole (held c w st) → Whole (held n w₁ st₁)

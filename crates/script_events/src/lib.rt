@@ -1,17 +1,19 @@
 // on_timer, on_connected and on_disconnected.
 ghost use mathlib.Core.Path.{_≡_};
-ghost use Prim.Native.Nat.{_≤_};
+ghost use Prim.Native.Nat.{_≤_, _<_};
 ghost use lib.ListN.{length};
 ghost use Rattle.state_places.specs.Sizes.{storeSize, mostResults};
 ghost use Rattle.time.specs.Clock.{latest};
 ghost use Rattle.script_rules.specs.Timeouts.{timedOut};
-ghost use Rattle.script_rules.specs.Comings.{greeted, goesOn, cutStatus, expire, connect, cutOff, lose};
+ghost use Rattle.script_rules.specs.Comings.{greeted, linkCounted, goesOn, cutStatus, expire, connect, cutOff, lose};
 ghost use Rattle.script_rules.specs.Sound.{Sound, Whole};
-ghost use Rattle.script_rules.specs.Events.{onTimer, onConnected, onDisconnected};
+ghost use Rattle.script_rules.specs.Events.{onTimer, gateConnected, onConnected, onDisconnected};
+ghost use Rattle.state_counters.specs.Counters.{mostLinks};
 ghost use Rattle.state_core.specs.Reading.{central, held, world};
 ghost use Rattle.central_answers.specs.Answers.{outcome, quiet, Leaves};
 use central_answers::Answer;
 use central_answers::QuietAnswer;
+use state::Counters;
 use state::Step;
 use state::StepStatus;
 use state_core::Core;
@@ -34,7 +36,7 @@ fn timed_out(step: Step) -> StepStatus
 }
 
 // The running step ends, if its deadline is now or before.
-fn expire(t: Turn, tables: &mut [u64; 1056], store: &mut [u8], out: &mut [u8], at: Micros) -> Turn
+fn expire(t: Turn, tables: &mut [u64; 1152], store: &mut [u8], out: &mut [u8], at: Micros) -> Turn
     requires { ⌜ Sound 65 (world t (now tables) (now store) (now out)) × (at .0 ≤ latest) ⌝ }
     ensures { λ r. ⌜ world r (now (tables .exit)) (now (store .exit)) (now (out .exit)) ≡ expire (world t (now (tables .entry)) (now (store .entry)) (now (out .entry))) at ⌝ }
 {
@@ -51,7 +53,7 @@ fn expire(t: Turn, tables: &mut [u64; 1056], store: &mut [u8], out: &mut [u8], a
 // The running step ends, if its deadline is now or before.
 pub fn on_timer(
     core: Core,
-    tables: &mut [u64; 1056],
+    tables: &mut [u64; 1152],
     store: &mut [u8],
     out: &mut [u8],
     at: Micros,
@@ -71,7 +73,7 @@ pub fn on_timer(
 // ---- a link comes
 
 // A running Connect is done.
-fn greet(c: Core, tables: &mut [u64; 1056], store: &mut [u8], at: Micros) -> Core
+fn greet(c: Core, tables: &mut [u64; 1152], store: &mut [u8], at: Micros) -> Core
     requires { ⌜ (length (now store) ≡ storeSize) × (c .counts .results ≤ mostResults) ⌝ }
     ensures { λ r. ⌜ held r (now (tables .exit)) (now (store .exit)) ≡ greeted (held c (now (tables .entry)) (now (store .entry))) at ⌝ }
 {
@@ -83,15 +85,25 @@ fn greet(c: Core, tables: &mut [u64; 1056], store: &mut [u8], at: Micros) -> Cor
     c
 }
 
+// One link more is counted.
+fn count_link(k: Counters) -> Counters
+    requires { ⌜ k .links < mostLinks ⌝ }
+    ensures { λ r. ⌜ r ≡ linkCounted k ⌝ }
+{
+    let mut o = k;
+    o.links = k.links + 1;
+    o
+}
+
 fn connect(
     t: Turn,
-    tables: &mut [u64; 1056],
+    tables: &mut [u64; 1152],
     store: &mut [u8],
     out: &mut [u8],
     handle: u16,
     at: Micros,
 ) -> Turn
-    requires { ⌜ Sound 65 (world t (now tables) (now store) (now out)) × (at .0 ≤ latest) ⌝ }
+    requires { ⌜ Sound 65 (world t (now tables) (now store) (now out)) × (at .0 ≤ latest) × (t .core .counters .links < mostLinks) ⌝ }
     ensures { λ r. ⌜ world r (now (tables .exit)) (now (store .exit)) (now (out .exit)) ≡ connect (world t (now (tables .entry)) (now (store .entry)) (now (out .entry))) handle at ⌝ }
 {
     let mut core = t.core;
@@ -101,15 +113,32 @@ fn connect(
     bearer.held = 0;
     bearer.present = true;
     core.bearer = bearer;
+    let counters = core.counters;
+    core.counters = count_link(counters);
     let next = greet(core, tables, store, at);
     let u = Turn { core: next, sent };
     script_run::advance(u, tables, store, out, at)
 }
 
+// Refusals 1 to 3, then 5: no more links can be counted.
+fn gate_connected(c: Core, tables: &[u64; 1152], store_len: usize, out_len: usize, at: Micros) -> u8
+    ensures { λ r. ⌜ r ≡ gateConnected (central c (now (tables .entry))) «store_len» «out_len» at ⌝ }
+{
+    let why = state_fit::gate(c, tables, store_len, out_len, at);
+    if why != refusal::ACCEPTED {
+        return why;
+    }
+    let counters = c.counters;
+    if state_counters::links_full(counters) {
+        return refusal::COUNTER_FULL;
+    }
+    refusal::ACCEPTED
+}
+
 // There is a new link, by this handle.
 pub fn on_connected(
     core: Core,
-    tables: &mut [u64; 1056],
+    tables: &mut [u64; 1152],
     store: &mut [u8],
     out: &mut [u8],
     handle: u16,
@@ -118,7 +147,7 @@ pub fn on_connected(
     ensures { λ r. ⌜ outcome r (now (tables .exit)) (now (store .exit)) (now (out .exit)) ≡ onConnected (central core (now (tables .entry))) (now (store .entry)) (now (out .entry)) handle at ⌝ }
     ensures refused { λ r. ⌜ Leaves (r .refusal) core (r .core) (now (tables .entry)) (now (tables .exit)) (now (store .entry)) (now (store .exit)) × ((r .refusal ≡ 0 → ⊥) → now (out .exit) ≡ now (out .entry)) ⌝ }
 {
-    let refusal = state_fit::gate(core, tables, store.len(), out.len(), at);
+    let refusal = gate_connected(core, tables, store.len(), out.len(), at);
     if refusal == refusal::ACCEPTED {
         let t = connect(central_answers::begin(core), tables, store, out, handle, at);
         return central_answers::done(t);
@@ -148,7 +177,7 @@ fn cut_status(step: Step) -> StepStatus
 }
 
 // A running step that needs a link ends.
-fn cut_off(c: Core, tables: &mut [u64; 1056], store: &mut [u8], at: Micros) -> Core
+fn cut_off(c: Core, tables: &mut [u64; 1152], store: &mut [u8], at: Micros) -> Core
     requires { ⌜ (length (now store) ≡ storeSize) × (c .counts .results ≤ mostResults) ⌝ }
     ensures { λ r. ⌜ held r (now (tables .exit)) (now (store .exit)) ≡ cutOff (held c (now (tables .entry)) (now (store .entry))) at (c .running .step) ⌝ }
 {
@@ -160,7 +189,7 @@ fn cut_off(c: Core, tables: &mut [u64; 1056], store: &mut [u8], at: Micros) -> C
     script_turns::end(c, tables, store, at, cut_status(step))
 }
 
-fn lose(c: Core, tables: &mut [u64; 1056], store: &mut [u8], at: Micros) -> Core
+fn lose(c: Core, tables: &mut [u64; 1152], store: &mut [u8], at: Micros) -> Core
     requires { ⌜ Whole (held c (now tables) (now store)) × (at .0 ≤ latest) ⌝ }
     ensures { λ r. ⌜ held r (now (tables .exit)) (now (store .exit)) ≡ lose (held c (now (tables .entry)) (now (store .entry))) at ⌝ }
 {
@@ -175,7 +204,7 @@ fn lose(c: Core, tables: &mut [u64; 1056], store: &mut [u8], at: Micros) -> Core
 // There is no link any more.
 pub fn on_disconnected(
     core: Core,
-    tables: &mut [u64; 1056],
+    tables: &mut [u64; 1152],
     store: &mut [u8],
     at: Micros,
 ) -> QuietAnswer

@@ -23,7 +23,7 @@ withLine c l =
     record {
       running = c .running;
       bearer = c .bearer;
-      counters = record { «next_index» = c .counters .«next_index»; «refused_steps» = l .refused; notified = c .counters .notified; «wait_from» = c .counters .«wait_from» };
+      counters = record { «next_index» = c .counters .«next_index»; «refused_steps» = l .refused; notified = c .counters .notified; «wait_from» = c .counters .«wait_from»; links = c .counters .links };
       counts = withWaiting (c .counts) (l .waiting);
       reports = c .reports;
       «key_count» = c .«key_count»;

@@ -62,7 +62,7 @@ fn with_line(c: Core, l: Line) -> Core
 }
 
 // A step waits behind the others, with its value; or is counted, where 64 wait.
-fn push_one(l: Line, tables: &mut [u64; 1056], store: &mut [u8], values: &[u8], p: Placed) -> Line
+fn push_one(l: Line, tables: &mut [u64; 1152], store: &mut [u8], values: &[u8], p: Placed) -> Line
     requires { ⌜ (valueLen p ≤ valueSize) × (l .refused < largest) ⌝ }
     ensures { λ r. ⌜ ((c : Core) → held (withLine c r) (now (tables .exit)) (now (store .exit)) ≡ pushOne (held (withLine c l) (now (tables .entry)) (now (store .entry))) (now (values .entry)) p) ⌝ }
 {
@@ -87,7 +87,7 @@ fn push_one(l: Line, tables: &mut [u64; 1056], store: &mut [u8], values: &[u8], 
 // The steps of a batch wait, one after another.
 pub fn push_all(
     c: Core,
-    tables: &mut [u64; 1056],
+    tables: &mut [u64; 1152],
     store: &mut [u8],
     values: &[u8],
     b: Batch,
@@ -139,7 +139,7 @@ fn start(c: Core, q: Queued) -> Core
 }
 
 // The first waiting step runs; its value and those behind it move down by one.
-pub fn take_step(c: Core, tables: &mut [u64; 1056], store: &mut [u8]) -> Core
+pub fn take_step(c: Core, tables: &mut [u64; 1152], store: &mut [u8]) -> Core
     requires { ⌜ (0 < c .counts .waiting) × (c .counts .waiting ≤ mostSteps) × (c .counters .«next_index» < lastIndex) ⌝ }
     ensures { λ r. ⌜ held r (now (tables .exit)) (now (store .exit)) ≡ takeStep (held c (now (tables .entry)) (now (store .entry))) ⌝ }
 {

@@ -7,6 +7,7 @@ use Rattle.time.specs.declared.Micros.{Micros}
 use Rattle.time.specs.declared.Millis.{Millis}
 use Rattle.uuid.specs.declared.Uuid.{Uuid}
 use Rattle.att_pdu.specs.Pdu.{exchangeMtuReq}
+use Rattle.notifications.specs.declared.Age.{Age}
 use Rattle.gatt_services.specs.Service as service
 use Rattle.state.specs.declared.Target.{Target}
 use Rattle.state.specs.declared.Step.{Step}
@@ -56,9 +57,9 @@ module _ (w : World) (at : Micros) (step : Step) where
   unfolding startLinked
   begin-read u e = same-as (Read u) e
 
-  pub begin-notification : (u : Uuid) (ms : Millis) → step ≡ WaitNotification u ms → onHeld w (checkWait (waitsFor (w .held) at ms) at) ≡ startLinked w at step
+  pub begin-notification : (u : Uuid) (ms : Millis) (age : Age) → step ≡ WaitNotification u ms age → onHeld w (checkWait (waitsFor (w .held) at ms) at) ≡ startLinked w at step
   unfolding startLinked
-  begin-notification u ms e = same-as (WaitNotification u ms) e
+  begin-notification u ms age e = same-as (WaitNotification u ms age) e
 
   pub begin-wait : (ms : Millis) → step ≡ Wait ms → onHeld w (waitsFor (w .held) at ms) ≡ startLinked w at step
   unfolding startLinked

@@ -20,6 +20,8 @@ use Rattle.att_pdu.specs.Numbers.{opWriteReq, opWriteCmd}
 use Rattle.att_pdu.specs.Pdu.{exchangeMtuReq, findInformationReq, readByTypeReq, readByGroupTypeReq, readReq, writeReq}
 use Rattle.att_pdu.proofs.PduLaws.{length-exchangeMtuReq, length-findInformationReq, length-readByTypeReq, length-readByGroupTypeReq, length-readReq}
 use Rattle.uuid.specs.declared.Uuid.{Uuid}
+use Rattle.notifications.specs.declared.Age.{Age}
+use Rattle.notifications.specs.declared.Wanted.{Wanted}
 use Rattle.gatt_services.specs.declared.Service.{Service}
 use Rattle.gatt_services.specs.Service as service
 use Rattle.gatt_services.specs.declared.Which as service-which
@@ -48,7 +50,7 @@ use Rattle.script_rules.proofs.ReadyLaws.{ready-finish, ready-send}
 use Rattle.script_rules.specs.Discovery.{primaryService, characteristicType, lastHandle, placed, asking, discoverServices, askRange, discoverDescriptors, discoverCharacteristics}
 use Rattle.script_rules.specs.declared.Awaited.{Awaited}
 use Rattle.script_rules.specs.declared.Awaited.the-variants as awaited-variants
-use Rattle.script_rules.specs.Wait.{waitPasses, passed, checkOne, awaited, checkFor, checkWait}
+use Rattle.script_rules.specs.Wait.{wanted, waitPasses, passedOn, passed, passing, checkOne, awaited, checkFor, checkWait}
 use Rattle.script_rules.specs.Start.{ends, waitsFor, startAlone, startUnlinked, forgotten, discoverIn, configuration, subscribeAt, subscribe, commanded, write, read, terminated, asksTo, disconnect, named, startLinked, start}
 use Rattle.script_rules.specs.Nearly.{Nearly}
 use Rattle.script_rules.specs.Timed.{milliseconds, narrow, Timed}
@@ -57,7 +59,7 @@ use Rattle.script_rules.proofs.KeepTurns.{Stays, Goes, stays, then, qui
 -- ---- parts of the state that a step changes as it begins
 
 pub stays-ends : (h : Held) (at : Micros) (status : StepStatus) → Nearly (h .state) → Stays h (ends h at status)
-stays-ends h at status f = stays-finish h at status heldAt 0 (omega arith) f
+stays-ends h at status f = stays-finish h at status heldAt 0 0 (omega arith) f
 
 stays-placed : (h : Held) (phase cursor : ℕ) → phase ≤ 2 → Nearly (h .state) → Stays h (onState h (withRunning (h .state) (placed (h .state .running) phase cursor)))
 stays-placed h phase cursor p f =
@@ -142,19 +144,24 @@ module _ (h : Held) (at : Micros) (f : Nearly (h .state)) where
   abbrev behind : Held
   behind = onState h (withCounters (h .state) (passed (h .state .counters)))
 
-  stays-check-one : (x : Which) → Stays h (checkOne h at x)
+  stays-passing : (w : Wanted) → Stays h (passing h at w)
+  stays-passing w =
+      let s = stays-passed h f in
+      then h behind (passing h at w) s (stays-finish behind at Ok heldAt 0 (passedOn (h .state) w (w .age)) (omega arith) (s .nearly))
+
+  stays-check-one : (age : Age) (x : Which) → Stays h (checkOne h at age x)
   unfolding checkOne
-  stays-check-one Nothing = stays-ends h at NotFound f
-  stays-check-one (At x) = go (waitPasses h (x .«value_handle»))
+  stays-check-one age Nothing = stays-ends h at NotFound f
+  stays-check-one age (At x) = let w = wanted (h .state) at (x .«value_handle») age in go w (waitPasses h w)
     where
-      go : (b : Bool) → Stays h (pick b (finish behind at Ok heldAt 0) h)
-      go true = let s = stays-passed h f in then h behind (finish behind at Ok heldAt 0) s (stays-ends behind at Ok (s .nearly))
-      go false = stays h f
+      go : (w : Wanted) (b : Bool) → Stays h (pick b (passing h at w) h)
+      go w true = stays-passing w
+      go w false = stays h f
 
   stays-check-for : (x : Awaited) → Stays h (checkFor h at x)
   unfolding checkFor
   stays-check-for awaited-variants.Nothing = stays h f
-  stays-check-for (awaited-variants.On u) = stays-check-one (characteristicWith u (known (h .state .characteristics)))
+  stays-check-for (awaited-variants.On u age) = stays-check-one age (characteristicWith u (known (h .state .characteristics)))
 
   pub stays-check : Stays h (checkWait h at)
   unfolding checkWait
@@ -182,7 +189,7 @@ module _ (h : Held) (at : Micros) (l : at .0 ≤ latest) (f : Nearly (h .state))
   stays-unlinked (Subscribe characteristic indicate) e = stays-ends h at NotConnected f
   stays-unlinked (Write characteristic response) e = stays-ends h at NotConnected f
   stays-unlinked (Read characteristic) e = stays-ends h at NotConnected f
-  stays-unlinked (WaitNotification characteristic ms) e = stays-ends h at NotConnected f
+  stays-unlinked (WaitNotification characteristic ms age) e = stays-ends h at NotConnected f
   stays-unlinked (Wait ms) e = stays-wait h at ms l f (spans (h .state) (Wait ms) a e)
   stays-unlinked Disconnect e = stays-ends h at NotConnected f
   stays-unlinked (Capture enabled) e = stays-ends h at Ok f
@@ -294,7 +301,7 @@ module _ (k : ℕ) (w : World) (at : Micros) (few : k ≤ 64) (l : at .0 ≤ lat
           let pdu : List ℕ = attPdu opWriteCmd handle (w .held .store) runningAt (w .held .state .running .len) in
           let r = ready-send k w cidAtt pdu ready few (value-pdu opWriteCmd handle (w .held .store) runningAt (w .held .state .running .len) short) in
           record {
-            ready = ready-finish (k + 1) (onTold w (send (w .told) cidAtt pdu)) at Ok heldAt 0 r;
+            ready = ready-finish (k + 1) (onTold w (send (w .told) cidAtt pdu)) at Ok heldAt 0 0 r;
             stays = stays-ends (w .held) at Ok f;
           }
 
@@ -343,7 +350,7 @@ module _ (k : ℕ) (w : World) (at : Micros) (few : k ≤ 64) (l : at .0 ≤ lat
   goes-linked (Write u response) e =
       goes-write k w at few l ready f a (is-att (Write u response) e refl) (write-len (c .running .step) u response (c .running .len) e (f .runs .step a)) response (named w u)
   goes-linked (Read u) e = goes-read k w at few l ready f a (is-att (Read u) e refl) (named w u)
-  goes-linked (WaitNotification u ms) e = goes-check k w at few l ready f a ms (spans c (WaitNotification u ms) a e)
+  goes-linked (WaitNotification u ms age) e = goes-check k w at few l ready f a ms (spans c (WaitNotification u ms age) a e)
   goes-linked (Wait ms) e = goes-wait k w at few l ready f a ms (spans c (Wait ms) a e)
   goes-linked Disconnect e = goes-disconnect k w at few l ready f a
   goes-linked (Capture enabled) e = goes-ends k w at few l ready f a Ok

@@ -42,7 +42,15 @@ of-fit c f =
       keys = f .head .keys;
       results = record { few = f .head .results; fit = f .results };
       peer = record { services = f .head .services; characteristics = f .head .characteristics; rising = f .rising };
-      heard = record { reports = f .head .reports; lengths = f .lengths; responses = f .responses; notifications = f .head .notifications; values = f .values };
+      heard = record {
+        reports = f .head .reports;
+        lengths = f .lengths;
+        responses = f .responses;
+        notifications = f .head .notifications;
+        values = f .values;
+        counted = f .head .links;
+        links = f .linked;
+      };
       tally = record { kept = f .head .kept; notified = f .head .notified; from = f .head .from; refused = f .head .refused; index = f .head .index };
       linked = record { held = f .head .held; mtuLow = f .head .mtuLow; mtuHigh = f .head .mtuHigh };
       runs = record { step = f .head .step; phase = f .head .phase };
@@ -78,6 +86,7 @@ module _ (c : Central) (n : Nearly c)
           refused = n .tally .refused;
           index = n .tally .index;
           deadline = timely;
+          links = n .heard .counted;
         };
         results = n .results .fit;
         values = n .heard .values;
@@ -85,6 +94,7 @@ module _ (c : Central) (n : Nearly c)
         responses = n .heard .responses;
         steps = n .waits .fit;
         rising = n .peer .rising;
+        linked = n .heard .links;
       }
 
 pub timed-of : (c : Central) → Fit c → Narrow c → Timed c
@@ -136,11 +146,11 @@ pushed-ended rs r e h =
           ∙ all-pushed (λ x. leb (x .len) resultSize) mostResults (kept rs) r (e .fit) (le-leb (r .len) resultSize h);
     }
 
-module _ (h : Held) (at : Micros) (status : StepStatus) (from n : ℕ) (m : n ≤ resultSize) (f : Nearly (h .state)) where
+module _ (h : Held) (at : Micros) (status : StepStatus) (from n heard : ℕ) (m : n ≤ resultSize) (f : Nearly (h .state)) where
   abbrev r : StepResult
-  r = record { index = h .state .running .index; at = at; status = status; len = n }
+  r = record { index = h .state .running .index; at = at; status = status; len = n; heard = heard }
 
-  pub stays-ended : Stays h (ended h at status from n)
+  pub stays-ended : Stays h (ended h at status from n heard)
   unfolding ended
   stays-ended =
       record {
@@ -164,11 +174,11 @@ module _ (h : Held) (at : Micros) (status : StepStatus) (from n : ℕ) (m : n �
         timed = λ t. record { running = λ p. absurd (false≢true p); waiting = t .waiting; deadline = λ p. absurd (false≢true p) };
       }
 
-  pub stays-finish : Stays h (finish h at status from n)
+  pub stays-finish : Stays h (finish h at status from n heard)
   unfolding finish
   stays-finish = go (h .state .running .active)
     where
-      go : (b : Bool) → Stays h (pick b (ended h at status from n) h)
+      go : (b : Bool) → Stays h (pick b (ended h at status from n heard) h)
       go true = stays-ended
       go false = stays h f
 

@@ -37,23 +37,23 @@ ready-more k m w r h = record { store = r .store; out = r .out; results = r .res
 pub ready-state : (k : ℕ) (w : World) (c : Central) → Ready k w → c .results .count ≤ mostResults → Ready k (onHeld w (onState (w .held) c))
 ready-state k w c r h = record { store = r .store; out = r .out; results = h; frames = r .frames; bytes = r .bytes }
 
-module _ (k : ℕ) (w : World) (at : Micros) (status : StepStatus) (from n : ℕ) (r : Ready k w) where
-  pub ready-ended : Ready k (onHeld w (ended (w .held) at status from n))
+module _ (k : ℕ) (w : World) (at : Micros) (status : StepStatus) (from n heard : ℕ) (r : Ready k w) where
+  pub ready-ended : Ready k (onHeld w (ended (w .held) at status from n heard))
   unfolding ended
   ready-ended =
       record {
         store = length-stored resultPart (w .held .state .results .count) (w .held .store) from n (w .held .store) ∙ r .store;
         out = r .out;
-        results = pushed-count (w .held .state .results) (record { index = w .held .state .running .index; at = at; status = status; len = n });
+        results = pushed-count (w .held .state .results) (record { index = w .held .state .running .index; at = at; status = status; len = n; heard = heard });
         frames = r .frames;
         bytes = r .bytes;
       }
 
-  pub ready-finish : Ready k (onHeld w (finish (w .held) at status from n))
+  pub ready-finish : Ready k (onHeld w (finish (w .held) at status from n heard))
   unfolding finish
   ready-finish = go (w .held .state .running .active)
     where
-      go : (b : Bool) → Ready k (onHeld w (pick b (ended (w .held) at status from n) (w .held)))
+      go : (b : Bool) → Ready k (onHeld w (pick b (ended (w .held) at status from n heard) (w .held)))
       go true = ready-ended
       go false = r
 

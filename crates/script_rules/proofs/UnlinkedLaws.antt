@@ -18,19 +18,19 @@ use Rattle.script_rules.specs.Unlinked.{stepUnlinked, advancesUnlinked, 
 abbrev pub present : Held → Bool
 present h = h .state .bearer .present
 
-pub present-finish : (h : Held) (at : Micros) (st : StepStatus) (from n : ℕ) → present (finish h at st from n) ≡ present h
+pub present-finish : (h : Held) (at : Micros) (st : StepStatus) (from n heard : ℕ) → present (finish h at st from n heard) ≡ present h
 unfolding finish ended
-present-finish h at st from n = go (h .state .running .active)
+present-finish h at st from n heard = go (h .state .running .active)
   where
-    go : (b : Bool) → present (pick b (ended h at st from n) h) ≡ present h
+    go : (b : Bool) → present (pick b (ended h at st from n heard) h) ≡ present h
     go true = refl
     go false = refl
 
 present-alone : (h : Held) (at : Micros) (a : Alone) → present (startAlone h at a) ≡ present h
 unfolding startAlone
 present-alone h at (alone.Runs ms) = refl
-present-alone h at alone.Done = present-finish h at _ heldAt 0
-present-alone h at alone.NeedsLink = present-finish h at _ heldAt 0
+present-alone h at alone.Done = present-finish h at _ heldAt 0 0
+present-alone h at alone.NeedsLink = present-finish h at _ heldAt 0 0
 
 pub present-take : (h : Held) → present (takeStep h) ≡ present h
 unfolding takeStep

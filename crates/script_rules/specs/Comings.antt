@@ -1,10 +1,11 @@
 -- What a timer, a link that comes and a link that goes do (01, 'Rules of the link': what each ends, what each keeps).
-use Prim.Native.Nat.{ℕ}
+use Prim.Native.Nat.{ℕ, _+_}
 use mathlib.Core.Bool.{Bool, _||_}
 use mathlib.Core.List.{[]}
 use Rattle.bytes.specs.Choice.{pick}
 use Rattle.time.specs.declared.Micros.{Micros}
-use Rattle.state.specs.Central.{withBearer}
+use Rattle.state.specs.Central.{Central, withBearer, withCounters}
+use Rattle.state.specs.declared.Counters.{Counters}
 use Rattle.state.specs.declared.Step.{Step}
 use Rattle.state.specs.declared.StepStatus.{StepStatus}
 use Rattle.state.specs.declared.StepStatus.the-variants.{Ok, Disconnected}
@@ -30,8 +31,16 @@ expire w at =
 abbrev pub greeted : Held → Micros → Held
 greeted h at = pick (isConnect (h .state .running .step)) (ends h at Ok) h
 
+-- one link more is counted: its number is the count (02, One)
+abbrev pub linkCounted : Counters → Counters
+linkCounted k =
+    record { «next_index» = k .«next_index»; «refused_steps» = k .«refused_steps»; notified = k .notified; «wait_from» = k .«wait_from»; links = k .links + 1 }
+
+abbrev pub withNewLink : Central → ℕ → Central
+withNewLink c handle = withCounters (withBearer c (linked handle)) (linkCounted (c .counters))
+
 unfoldable pub connect : World → ℕ → Micros → World
-connect w handle at = advance (onHeld w (greeted (onState (w .held) (withBearer (w .held .state) (linked handle))) at)) at
+connect w handle at = advance (onHeld w (greeted (onState (w .held) (withNewLink (w .held .state) handle)) at)) at
 
 -- ---- a link goes
 

@@ -37,7 +37,7 @@ discoverServices w at from = request (asking w 0 from) at (readByGroupTypeReq fr
 
 -- where no range is left, the step is done
 unfoldable pub askRange : World → Micros → Range → World
-askRange w at Nothing = onHeld w (finish (w .held) at Ok heldAt 0)
+askRange w at Nothing = onHeld w (finish (w .held) at Ok heldAt 0 0)
 askRange w at (Is start end) = request (asking w 2 start) at (findInformationReq start end)
 
 unfoldable pub discoverDescriptors : World → Micros → Service → ℕ → World

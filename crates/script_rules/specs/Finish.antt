@@ -32,17 +32,17 @@ pushedResult rs r =
 abbrev pub idle : Running → Running
 idle r = record { deadline = r .deadline; step = r .step; index = r .index; cursor = r .cursor; len = r .len; phase = r .phase; active = false; dated = r .dated }
 
--- the running step's result: the n bytes of the store from `from` on are its value
-unfoldable pub ended : Held → Micros → StepStatus → ℕ → ℕ → Held
-ended h at status from n =
+-- the running step's result: the n bytes of the store from `from` on are its value; `heard` is what an aged wait passed on, else 0
+unfoldable pub ended : Held → Micros → StepStatus → ℕ → ℕ → ℕ → Held
+ended h at status from n heard =
     let c = h .state in
     record {
       state = withResults
           (withBearer (withRunning c (idle (c .running))) (withLink (c .bearer) (answered (c .bearer .link))))
-          (pushedResult (c .results) (record { index = c .running .index; at = at; status = status; len = n }));
+          (pushedResult (c .results) (record { index = c .running .index; at = at; status = status; len = n; heard = heard }));
       store = stored resultPart (c .results .count) (h .store) from n (h .store);
     }
 
 -- where no step runs, nothing
-unfoldable pub finish : Held → Micros → StepStatus → ℕ → ℕ → Held
-finish h at status from n = pick (h .state .running .active) (ended h at status from n) h
+unfoldable pub finish : Held → Micros → StepStatus → ℕ → ℕ → ℕ → Held
+finish h at status from n heard = pick (h .state .running .active) (ended h at status from n heard) h

@@ -8,7 +8,7 @@ use Rattle.gatt_services.specs.declared.Services.{Services}
 use Rattle.gatt_characteristics.specs.declared.Characteristics.{Characteristics}
 use Rattle.gatt_characteristics.specs.Characteristic.{known, rises}
 use Rattle.notifications.specs.declared.Notifications.{Notifications}
-use Rattle.notifications.specs.Kept.{live, valuesFit}
+use Rattle.notifications.specs.Kept.{live, valuesFit, linksFit}
 use Rattle.state.specs.Central.{Central}
 use Rattle.state.specs.declared.Queue.{Queue}
 use Rattle.state.specs.declared.Results.{Results}
@@ -17,7 +17,7 @@ use Rattle.state.specs.declared.Counters.{Counters}
 use Rattle.state.specs.declared.Bearer.{Bearer}
 use Rattle.state.specs.declared.Running.{Running}
 use Rattle.state_rules.specs.Steps.{defaultMtu, mostMtu, stepFits, attStep}
-use Rattle.state_rules.specs.Fit.{kept, resultsFit, lengthsFit, dataLengths, responseLengths, noResponse, waiting, stepsFit, awaits, isRequest, mostNotified, mostRefused, lastIndex}
+use Rattle.state_rules.specs.Fit.{kept, resultsFit, lengthsFit, dataLengths, responseLengths, noResponse, waiting, stepsFit, awaits, isRequest, mostNotified, mostRefused, lastIndex, mostLinks}
 
 pub record Waits (q : Queue) : Type 0 where
   pub few : q .count ≤ mostSteps
@@ -32,12 +32,14 @@ pub record Peer (s : Services) (x : Characteristics) : Type 0 where
   pub characteristics : x .count ≤ mostCharacteristics
   pub rising : rises (known x) ≡ true
 
-pub record Heard (r : Reports) (n : Notifications) : Type 0 where
+pub record Heard (r : Reports) (n : Notifications) (most : ℕ) : Type 0 where
   pub reports : r .count ≤ mostReports
   pub lengths : lengthsFit dataSize (dataLengths r) ≡ true
   pub responses : lengthsFit noResponse (responseLengths r) ≡ true
   pub notifications : n .count ≤ mostNotifications
   pub values : valuesFit (live n) ≡ true
+  pub counted : most ≤ mostLinks
+  pub links : linksFit most (live n) ≡ true
 
 pub record Tally (k : Counters) (notifications waiting : ℕ) : Type 0 where
   pub kept : notifications ≤ k .notified
@@ -65,7 +67,7 @@ pub record Nearly (c : Central) : Type 0 where
   pub keys : c .keys .count ≤ mostKeys
   pub results : Ended (c .results)
   pub peer : Peer (c .services) (c .characteristics)
-  pub heard : Heard (c .reports) (c .notifications)
+  pub heard : Heard (c .reports) (c .notifications) (c .counters .links)
   pub tally : Tally (c .counters) (c .notifications .count) (c .queue .count)
   pub linked : Linked (c .bearer)
   pub runs : Runs (c .running)

@@ -39,7 +39,7 @@ use Rattle.script_rules.specs.Wait.{checkWait}
 
 -- the step ends at once, with no value
 abbrev pub ends : Held → Micros → StepStatus → Held
-ends h at status = finish h at status heldAt 0
+ends h at status = finish h at status heldAt 0 0
 
 -- the step runs until its milliseconds are over
 abbrev pub waitsFor : Held → Micros → Millis → Held
@@ -57,7 +57,7 @@ unlinkedStep (DiscoverCharacteristics service) = alone.NeedsLink
 unlinkedStep (Subscribe characteristic indicate) = alone.NeedsLink
 unlinkedStep (Write characteristic response) = alone.NeedsLink
 unlinkedStep (Read characteristic) = alone.NeedsLink
-unlinkedStep (WaitNotification characteristic ms) = alone.NeedsLink
+unlinkedStep (WaitNotification characteristic ms age) = alone.NeedsLink
 unlinkedStep (Wait ms) = alone.Runs ms
 unlinkedStep Disconnect = alone.NeedsLink
 unlinkedStep (Capture enabled) = alone.Done
@@ -142,7 +142,7 @@ startLinked w at (DiscoverCharacteristics u) = discoverIn w at (service.serviceW
 startLinked w at (Subscribe u indicate) = subscribe w at indicate (named w u)
 startLinked w at (Write u response) = write w at response (named w u)
 startLinked w at (Read u) = read w at (named w u)
-startLinked w at (WaitNotification u ms) = onHeld w (checkWait (waitsFor (w .held) at ms) at)
+startLinked w at (WaitNotification u ms age) = onHeld w (checkWait (waitsFor (w .held) at ms) at)
 startLinked w at (Wait ms) = onHeld w (waitsFor (w .held) at ms)
 startLinked w at Disconnect = disconnect w
 startLinked w at (Capture enabled) = onHeld w (ends (w .held) at Ok)

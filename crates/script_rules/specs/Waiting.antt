@@ -27,7 +27,7 @@ queueing q l = record { kept = onto (q .kept) l; count = length l }
 -- ---- one more
 
 abbrev pub refusing : Counters → Counters
-refusing k = record { «next_index» = k .«next_index»; «refused_steps» = k .«refused_steps» + 1; notified = k .notified; «wait_from» = k .«wait_from» }
+refusing k = record { «next_index» = k .«next_index»; «refused_steps» = k .«refused_steps» + 1; notified = k .notified; «wait_from» = k .«wait_from»; links = k .links }
 
 -- behind the others, with its value; or counted, where 64 wait
 unfoldable pub pushOne : Held → List ℕ → Placed → Held
@@ -52,7 +52,7 @@ abbrev pub begun : Queued → ℕ → Running
 begun q index = record { deadline = record { 0 = 0 }; step = q .step; index = index; cursor = 1; len = q .len; phase = 0; active = true; dated = false }
 
 abbrev pub counted : Counters → Counters
-counted k = record { «next_index» = k .«next_index» + 1; «refused_steps» = k .«refused_steps»; notified = k .notified; «wait_from» = k .«wait_from» }
+counted k = record { «next_index» = k .«next_index» + 1; «refused_steps» = k .«refused_steps»; notified = k .notified; «wait_from» = k .«wait_from»; links = k .links }
 
 -- no advertiser has been asked
 abbrev pub unasked : Keys → Keys

@@ -1,4 +1,5 @@
 // What the script does (definitions and their laws): how a step begins, runs and ends, what waits, what each event does.
+use notifications::Age;
 use state::Step;
 use time::Millis;
 use uuid::Uuid;
@@ -23,8 +24,8 @@ pub enum Alone {
     NeedsLink,
 }
 
-// What a step waits on.
+// What a step waits on, and how old a notification may be that it counts.
 pub enum Awaited {
     Nothing,
-    On(Uuid),
+    On { characteristic: Uuid, age: Age },
 }

@@ -26,7 +26,7 @@ fn can_go(c: Core) -> bool
 // The first waiting step begins.
 fn step_once(
     t: Turn,
-    tables: &mut [u64; 1056],
+    tables: &mut [u64; 1152],
     store: &mut [u8],
     out: &mut [u8],
     at: Micros,
@@ -44,7 +44,7 @@ fn step_once(
 // Steps begin, one after another, until one runs or none waits.
 pub fn advance(
     t: Turn,
-    tables: &mut [u64; 1056],
+    tables: &mut [u64; 1152],
     store: &mut [u8],
     out: &mut [u8],
     at: Micros,
@@ -61,7 +61,7 @@ pub fn advance(
 
 // ---- with no link, where nothing can go out
 
-fn step_unlinked(c: Core, tables: &mut [u64; 1056], store: &mut [u8], at: Micros) -> Core
+fn step_unlinked(c: Core, tables: &mut [u64; 1152], store: &mut [u8], at: Micros) -> Core
     requires { ⌜ Whole (held c (now tables) (now store)) × (canGo (central c (now tables)) ≡ true) ⌝ }
     ensures { λ r. ⌜ held r (now (tables .exit)) (now (store .exit)) ≡ stepUnlinked (held c (now (tables .entry)) (now (store .entry))) at ⌝ }
 {
@@ -69,7 +69,7 @@ fn step_unlinked(c: Core, tables: &mut [u64; 1056], store: &mut [u8], at: Micros
     script_starts::start_unlinked(d, tables, store, at)
 }
 
-pub fn advance_unlinked(c: Core, tables: &mut [u64; 1056], store: &mut [u8], at: Micros) -> Core
+pub fn advance_unlinked(c: Core, tables: &mut [u64; 1152], store: &mut [u8], at: Micros) -> Core
     requires { ⌜ Whole (held c (now tables) (now store)) × (at .0 ≤ latest) ⌝ }
     ensures { λ r. ⌜ held r (now (tables .exit)) (now (store .exit)) ≡ advanceUnlinked (held c (now (tables .entry)) (now (store .entry))) at ⌝ }
 {

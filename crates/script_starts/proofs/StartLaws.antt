@@ -82,7 +82,7 @@ pub looks-stay : (c a : Core) (w : List ℕ) (at : Micros) (ms : Millis) → ((v
 looks-stay c a w at ms e l =
     let q : central a w ≡ waitsFor (held c w []) at ms .state = ap (λ (h : Held). h .state) (e w []) in
     subst (λ (z : Central). Looks z) (sym q)
-    (record { results = l .results; characteristics = l .characteristics; notifications = l .notifications; values = l .values; kept = l .kept })
+    (record { results = l .results; characteristics = l .characteristics; notifications = l .notifications; values = l .values; kept = l .kept; notified = l .notified })
 
 pub waits-then : (t : Turn) (a r : Core) (w w' st st' : List ℕ) (at : Micros) (ms : Millis)
     → ((v s : List ℕ) → held a v s ≡ waitsFor (held (t .core) v s) at ms) → held r w' st' ≡ checkWait (held a w st) at

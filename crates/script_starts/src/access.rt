@@ -73,7 +73,7 @@ fn configure(handle: u16, indicate: bool) -> [u8; 5]
 // By where the descriptor stands.
 fn subscribe_at(
     t: Turn,
-    tables: &mut [u64; 1056],
+    tables: &mut [u64; 1152],
     store: &mut [u8],
     out: &mut [u8],
     at: Micros,
@@ -96,7 +96,7 @@ fn subscribe_at(
 
 pub fn start_subscribe(
     t: Turn,
-    tables: &mut [u64; 1056],
+    tables: &mut [u64; 1152],
     store: &mut [u8],
     out: &mut [u8],
     at: Micros,
@@ -123,7 +123,7 @@ pub fn start_subscribe(
 // The running step's value goes out as a command, and that is all.
 fn write_command(
     t: Turn,
-    tables: &mut [u64; 1056],
+    tables: &mut [u64; 1152],
     store: &mut [u8],
     out: &mut [u8],
     at: Micros,
@@ -179,7 +179,7 @@ fn write_request(t: Turn, store: &[u8], out: &mut [u8], at: Micros, handle: u16,
 // A value for a handle goes out, if it is within the MTU.
 fn write_to(
     t: Turn,
-    tables: &mut [u64; 1056],
+    tables: &mut [u64; 1152],
     store: &mut [u8],
     out: &mut [u8],
     at: Micros,
@@ -209,7 +209,7 @@ fn write_to(
 
 pub fn start_write(
     t: Turn,
-    tables: &mut [u64; 1056],
+    tables: &mut [u64; 1152],
     store: &mut [u8],
     out: &mut [u8],
     at: Micros,
@@ -232,7 +232,7 @@ pub fn start_write(
 
 pub fn start_read(
     t: Turn,
-    tables: &mut [u64; 1056],
+    tables: &mut [u64; 1152],
     store: &mut [u8],
     out: &mut [u8],
     at: Micros,

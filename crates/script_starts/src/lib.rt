@@ -32,7 +32,7 @@ const REMOTE_USER_TERMINATED: u8 = 0x13;
 // ---- with no link
 
 // The running step begins, and there is no link.
-pub fn start_unlinked(c: Core, tables: &mut [u64; 1056], store: &mut [u8], at: Micros) -> Core
+pub fn start_unlinked(c: Core, tables: &mut [u64; 1152], store: &mut [u8], at: Micros) -> Core
     requires { ⌜ (length (now store) ≡ storeSize) × (c .counts .results ≤ mostResults) ⌝ }
     ensures { λ r. ⌜ held r (now (tables .exit)) (now (store .exit)) ≡ startUnlinked (held c (now (tables .entry)) (now (store .entry))) at (c .running .step) ⌝ }
 {
@@ -67,7 +67,7 @@ fn start_services(t: Turn, out: &mut [u8], at: Micros) -> Turn
 // The characteristics of a service that is known, or else the services first.
 fn start_characteristics(
     t: Turn,
-    tables: &mut [u64; 1056],
+    tables: &mut [u64; 1152],
     store: &mut [u8],
     out: &mut [u8],
     at: Micros,
@@ -110,7 +110,7 @@ fn start_disconnect(t: Turn) -> Turn
 }
 
 // The step waits for a notification, and looks at those that are kept.
-fn start_wait(t: Turn, tables: &mut [u64; 1056], store: &mut [u8], at: Micros, ms: Millis) -> Turn
+fn start_wait(t: Turn, tables: &mut [u64; 1152], store: &mut [u8], at: Micros, ms: Millis) -> Turn
     requires { ⌜ (length (now store) ≡ storeSize) × Looks (central (t .core) (now tables)) ⌝ }
     ensures { λ r.
         ⌜ ((o : List ℕ) → world r (now (tables .exit)) (now (store .exit)) o
@@ -126,7 +126,7 @@ fn start_wait(t: Turn, tables: &mut [u64; 1056], store: &mut [u8], at: Micros, m
 // The running step begins, and there is a link.
 fn start_linked(
     t: Turn,
-    tables: &mut [u64; 1056],
+    tables: &mut [u64; 1152],
     store: &mut [u8],
     out: &mut [u8],
     at: Micros,
@@ -166,6 +166,7 @@ fn start_linked(
         Step::WaitNotification {
             characteristic: _,
             within_ms,
+            age: _,
         } => start_wait(t, tables, store, at, within_ms),
         Step::Wait { ms } => script_turns::run_for(t, at, ms),
         Step::Disconnect => start_disconnect(t),
@@ -185,7 +186,7 @@ fn start_linked(
 // The running step begins.
 pub fn start(
     t: Turn,
-    tables: &mut [u64; 1056],
+    tables: &mut [u64; 1152],
     store: &mut [u8],
     out: &mut [u8],
     at: Micros,

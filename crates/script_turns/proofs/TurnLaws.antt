@@ -34,20 +34,20 @@ more-results n k = record { waiting = n .waiting; results = k; services = n .ser
 abbrev over : Core → Bearer → ℕ → Core
 over c b k = record { running = idle (c .running); bearer = b; counters = c .counters; counts = more-results (c .counts) k; reports = c .reports; «key_count» = c .«key_count» }
 
-module _ (c : Core) (w s : List ℕ) (at : Micros) (status : StepStatus) (from n : ℕ) where
+module _ (c : Core) (w s : List ℕ) (at : Micros) (status : StepStatus) (from n heard : ℕ) where
   abbrev result : StepResult
-  result = record { index = c .running .index; at = at; status = status; len = n }
+  result = record { index = c .running .index; at = at; status = status; len = n; heard = heard }
 
   pub finish-on : (w' s' : List ℕ) (k : ℕ) (b : Bearer) → c .running .active ≡ true
       → s' ≡ stored resultPart (c .counts .results) s from n s
       → (tables w' ≡ withResults (tables w) (pushedResult (resultsAs w (c .counts .results)) result .kept)) × (k ≡ pushedResult (resultsAs w (c .counts .results)) result .count)
       → b ≡ withLink (c .bearer) (answered (c .bearer .link))
-      → held (over c b k) w' s' ≡ finish (held c w s) at status from n
+      → held (over c b k) w' s' ≡ finish (held c w s) at status from n heard
   unfolding finish ended
   finish-on w' s' k b e e₁ e₂ e₃ =
       ap (λ (t : Tables). record { state = centralOf (over c b k) t; store = s' }) (e₂ .0) ∙ rw (e, e₃, e₂ .1, e₁)
 
-  pub finish-off : c .running .active ≡ false → held c w s ≡ finish (held c w s) at status from n
+  pub finish-off : c .running .active ≡ false → held c w s ≡ finish (held c w s) at status from n heard
   unfolding finish
   finish-off e = rw e
 

@@ -42,18 +42,19 @@ fn keep_value(store: &mut [u8], count: usize, from: usize, n: usize)
     }
 }
 
-// The running step ends; the len bytes of the store from `from` on are its value.
+// The running step ends; the len bytes of the store from `from` on are its value, `heard` is what an aged wait passed on.
 pub fn finish(
     c: Core,
-    tables: &mut [u64; 1056],
+    tables: &mut [u64; 1152],
     store: &mut [u8],
     at: Micros,
     status: StepStatus,
     from: usize,
     len: u8,
+    heard: u64,
 ) -> Core
     requires { ⌜ (length (now store) ≡ storeSize) × (c .counts .results ≤ mostResults) × (len ≤ resultSize) × (heldAt ≤ from) × (from + len ≤ storeSize) ⌝ }
-    ensures { λ r. ⌜ held r (now (tables .exit)) (now (store .exit)) ≡ finish (held c (now (tables .entry)) (now (store .entry))) at status from len ⌝ }
+    ensures { λ r. ⌜ held r (now (tables .exit)) (now (store .exit)) ≡ finish (held c (now (tables .entry)) (now (store .entry))) at status from len heard ⌝ }
 {
     let mut running = c.running;
     if running.active {
@@ -66,6 +67,7 @@ pub fn finish(
             at,
             status,
             len,
+            heard,
         };
         let more = words_result::push_result(tables, count, result);
         let linked = c.bearer;
@@ -84,7 +86,7 @@ pub fn finish(
 // The running step ends with no value.
 pub fn end(
     c: Core,
-    tables: &mut [u64; 1056],
+    tables: &mut [u64; 1152],
     store: &mut [u8],
     at: Micros,
     status: StepStatus,
@@ -92,13 +94,13 @@ pub fn end(
     requires { ⌜ (length (now store) ≡ storeSize) × (c .counts .results ≤ mostResults) ⌝ }
     ensures { λ r. ⌜ held r (now (tables .exit)) (now (store .exit)) ≡ ends (held c (now (tables .entry)) (now (store .entry))) at status ⌝ }
 {
-    finish(c, tables, store, at, status, state_places::HELD_AT, 0)
+    finish(c, tables, store, at, status, state_places::HELD_AT, 0, 0)
 }
 
 // The same of a turn, with a value.
 pub fn finish_turn(
     t: Turn,
-    tables: &mut [u64; 1056],
+    tables: &mut [u64; 1152],
     store: &mut [u8],
     at: Micros,
     status: StepStatus,
@@ -106,18 +108,18 @@ pub fn finish_turn(
     len: u8,
 ) -> Turn
     requires { ⌜ (length (now store) ≡ storeSize) × (t .core .counts .results ≤ mostResults) × (len ≤ resultSize) × (heldAt ≤ from) × (from + len ≤ storeSize) ⌝ }
-    ensures { λ r. ⌜ ((o : List ℕ) → world r (now (tables .exit)) (now (store .exit)) o ≡ onHeld (world t (now (tables .entry)) (now (store .entry)) o) (finish (held (t .core) (now (tables .entry)) (now (store .entry))) at status from len)) ⌝ }
+    ensures { λ r. ⌜ ((o : List ℕ) → world r (now (tables .exit)) (now (store .exit)) o ≡ onHeld (world t (now (tables .entry)) (now (store .entry)) o) (finish (held (t .core) (now (tables .entry)) (now (store .entry))) at status from len 0)) ⌝ }
 {
     let core = t.core;
     let sent = t.sent;
-    let next = finish(core, tables, store, at, status, from, len);
+    let next = finish(core, tables, store, at, status, from, len, 0);
     Turn { core: next, sent }
 }
 
 // The same of a turn, with no value.
 pub fn end_turn(
     t: Turn,
-    tables: &mut [u64; 1056],
+    tables: &mut [u64; 1152],
     store: &mut [u8],
     at: Micros,
     status: StepStatus,

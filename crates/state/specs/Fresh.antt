@@ -15,10 +15,10 @@ abbrev pub noQueued : Queued
 noQueued = record { step = Scan (record { 0 = 0 }); len = 0 }
 
 abbrev pub noResult : StepResult
-noResult = record { index = 0; at = record { 0 = 0 }; status = Ok; len = 0 }
+noResult = record { index = 0; at = record { 0 = 0 }; status = Ok; len = 0; heard = 0 }
 
 abbrev pub noNotification : Notification
-noNotification = record { at = record { 0 = 0 }; handle = 0; len = 0; indication = false }
+noNotification = record { at = record { 0 = 0 }; handle = 0; len = 0; indication = false; link = 0 }
 
 abbrev pub noRunning : Running
 noRunning = record { deadline = record { 0 = 0 }; step = Scan (record { 0 = 0 }); index = 0; cursor = 0; len = 0; phase = 0; active = false; dated = false }
@@ -26,7 +26,7 @@ noRunning = record { deadline = record { 0 = 0 }; step = Scan (record { 0 = 0 })
 unfoldable pub freshCentral : Central
 freshCentral =
     record {
-      counters = record { «next_index» = 0; «refused_steps» = 0; notified = 0; «wait_from» = 0 };
+      counters = record { «next_index» = 0; «refused_steps» = 0; notified = 0; «wait_from» = 0; links = 0 };
       queue = record { kept = replicate 64 noQueued; count = 0 };
       running = noRunning;
       keys = record { kept = replicate 128 0; count = 0 };

@@ -1,4 +1,5 @@
 // The parts of a central's state, which functions and definitions speak of. How they lie in words: crate words.
+use notifications::Age;
 use time::Micros;
 use time::Millis;
 use uuid::Uuid;
@@ -51,6 +52,7 @@ pub enum Step {
     WaitNotification {
         characteristic: Uuid,
         within_ms: Millis,
+        age: Age,
     },
     Wait {
         ms: Millis,
@@ -87,11 +89,13 @@ pub struct Queue {
     pub count: usize,
 }
 
+// An aged wait that ends Ok tells what it passed on: one past the number of a notification, 0 in every other result.
 pub struct StepResult {
     pub index: u32,
     pub at: Micros,
     pub status: StepStatus,
     pub len: u8,
+    pub heard: u64,
 }
 
 // The newest results, the oldest first; those from count on are none.
@@ -127,11 +131,13 @@ pub struct Bearer {
     pub present: bool,
 }
 
+// The present link has the number `links`.
 pub struct Counters {
     pub next_index: u32,
     pub refused_steps: u64,
     pub notified: u64,
     pub wait_from: u64,
+    pub links: u64,
 }
 
 // What was heard of each advertiser, a place of each array for one: a response of 32 bytes is none.

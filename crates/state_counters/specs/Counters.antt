@@ -1,4 +1,4 @@
--- What a fit state has in its counters (01, 'Refusal numbers', "Fit means").
+-- What a fit state has in its counters (01, 'Refusal numbers', "Fit means"; 02, One).
 use Prim.Native.Nat.{ℕ, _+_}
 use mathlib.Core.Bool.{Bool, _&&_}
 use lib.Dec.{leb}
@@ -34,7 +34,15 @@ lastIndex = 4294967295
 abbrev pub indexFits : Counters → ℕ → Bool
 indexFits k waiting = leb (k .«next_index» + waiting) lastIndex
 
+-- ---- link count <= 2^62 (02, One)
+
+abbrev pub mostLinks : ℕ
+mostLinks = 4611686018427387904
+
+abbrev pub linkCountFits : Counters → Bool
+linkCountFits k = leb (k .links) mostLinks
+
 -- ---- all of them
 
 unfoldable pub countersFit : Counters → Counts → Bool
-countersFit k n = notifiedFits k (n .notifications) && waitFits k && refusedFits k && indexFits k (n .waiting)
+countersFit k n = notifiedFits k (n .notifications) && waitFits k && refusedFits k && indexFits k (n .waiting) && linkCountFits k

@@ -2,11 +2,12 @@
 ghost use mathlib.Core.Path.{_≡_};
 ghost use Prim.Native.Nat.{_+_};
 ghost use lib.Dec.{eqb, leb};
-ghost use Rattle.state_counters.specs.Counters.{mostNotified, lastIndex, countersFit};
+ghost use Rattle.state_counters.specs.Counters.{mostNotified, mostLinks, lastIndex, countersFit};
 use state::Counters;
 use state::Counts;
 
-// 2^62: no batch is accepted where so many steps were refused, and no fragment where so many notifications came in.
+// 2^62: no batch is accepted where so many steps were refused, no fragment where so many notifications came in, no link where so many
+// were counted.
 pub const COUNTER_END: u64 = 4_611_686_018_427_387_904;
 
 // A batch may be refused below the end, to its last step.
@@ -40,6 +41,7 @@ pub fn counters_fit(k: Counters, n: Counts) -> bool
         & (k.wait_from <= k.notified)
         & (k.refused_steps <= MAX_REFUSED)
         & index_fits(k.next_index, n.waiting)
+        & (k.links <= COUNTER_END)
 }
 
 // Whether no notification can be counted any more.
@@ -47,4 +49,11 @@ pub fn is_full(k: Counters) -> bool
     ensures { λ r. ⌜ r ≡ eqb (k .notified) mostNotified ⌝ }
 {
     k.notified == COUNTER_END
+}
+
+// Whether no link can be counted any more.
+pub fn links_full(k: Counters) -> bool
+    ensures { λ r. ⌜ r ≡ eqb (k .links) mostLinks ⌝ }
+{
+    k.links == COUNTER_END
 }

@@ -11,7 +11,7 @@ use Rattle.bytes.specs.Choice.{pick}
 use Rattle.lists.specs.Queue.{all}
 use Rattle.state_places.specs.Sizes.{mostSteps, mostResults, mostCharacteristics, mostNotifications}
 use Rattle.gatt_characteristics.specs.Characteristic.{rises}
-use Rattle.notifications.specs.Kept.{valuesFit}
+use Rattle.notifications.specs.Kept.{valuesFit, linksFit}
 use Rattle.state_rules.specs.Fit.{resultsFit, stepsFit, lengthsFit, fits}
 use Rattle.state_rules.specs.Gate.{firstRefusal}
 use Rattle.state_rules.proofs.FitLaws.{head-of, of-head, of-fit, unfit}
@@ -53,10 +53,11 @@ unfolding heardIn
 responses-fit w n = from-all (λ k. leb k 32) (λ i. responseOf (word w 864 i)) 0 64 n (λ j. short-response (word w 864 j))
 
 module _ (c : Core) (w : List ℕ) (h : coreFits c ≡ true) where
-  fit-words : (s r x v : Bool) → s ≡ stepsFit (take (c .counts .waiting) (stepsIn w)) → r ≡ resultsFit (take (c .counts .results) (resultsIn w))
+  fit-words : (s r x v l : Bool) → s ≡ stepsFit (take (c .counts .waiting) (stepsIn w)) → r ≡ resultsFit (take (c .counts .results) (resultsIn w))
       → x ≡ rises (take (c .counts .characteristics) (characteristicsIn w)) → v ≡ valuesFit (take (c .counts .notifications) (notificationsIn w))
-      → (((s && r) && x) && v) ≡ fits (central c w)
-  fit-words true true true true e₁ e₂ e₃ e₄ =
+      → l ≡ linksFit (c .counters .links) (take (c .counts .notifications) (notificationsIn w))
+      → ((((s && r) && x) && v) && l) ≡ fits (central c w)
+  fit-words true true true true true e₁ e₂ e₃ e₄ e₅ =
       sym (of-fit (central c w)
       (record {
         head = head-of (c .counts) (c .counters) (c .bearer) (c .running) (c .reports) (c .«key_count») h;
@@ -66,11 +67,14 @@ module _ (c : Core) (w : List ℕ) (h : coreFits c ≡ true) where
         responses = responses-fit w (c .reports);
         steps = sym e₁;
         rising = sym e₃;
+        linked = sym e₅;
       }))
-  fit-words false r x v e₁ e₂ e₃ e₄ = sym (unfit (central c w) (stepsFit (take (c .counts .waiting) (stepsIn w))) (λ f. f .steps) (sym e₁))
-  fit-words true false x v e₁ e₂ e₃ e₄ = sym (unfit (central c w) (resultsFit (take (c .counts .results) (resultsIn w))) (λ f. f .results) (sym e₂))
-  fit-words true true false v e₁ e₂ e₃ e₄ = sym (unfit (central c w) (rises (take (c .counts .characteristics) (characteristicsIn w))) (λ f. f .rising) (sym e₃))
-  fit-words true true true false e₁ e₂ e₃ e₄ = sym (unfit (central c w) (valuesFit (take (c .counts .notifications) (notificationsIn w))) (λ f. f .values) (sym e₄))
+  fit-words false r x v l e₁ e₂ e₃ e₄ e₅ = sym (unfit (central c w) (stepsFit (take (c .counts .waiting) (stepsIn w))) (λ f. f .steps) (sym e₁))
+  fit-words true false x v l e₁ e₂ e₃ e₄ e₅ = sym (unfit (central c w) (resultsFit (take (c .counts .results) (resultsIn w))) (λ f. f .results) (sym e₂))
+  fit-words true true false v l e₁ e₂ e₃ e₄ e₅ = sym (unfit (central c w) (rises (take (c .counts .characteristics) (characteristicsIn w))) (λ f. f .rising) (sym e₃))
+  fit-words true true true false l e₁ e₂ e₃ e₄ e₅ = sym (unfit (central c w) (valuesFit (take (c .counts .notifications) (notificationsIn w))) (λ f. f .values) (sym e₄))
+  fit-words true true true true false e₁ e₂ e₃ e₄ e₅ =
+      sym (unfit (central c w) (linksFit (c .counters .links) (take (c .counts .notifications) (notificationsIn w))) (λ f. f .linked) (sym e₅))
 
 -- ---- what the gates ask: x is what the core's test said
 
@@ -90,5 +94,5 @@ module _ (c : Core) (x : Bool) (e : x ≡ coreFits c) (h : not x ≡ false) wher
       (f .waiting, f .results, f .characteristics, f .notifications)
 
   pub all-fit : (w : List ℕ) (f : Bool)
-      → f ≡ tablesFit w (c .counts .waiting) (c .counts .results) (c .counts .characteristics) (c .counts .notifications) → f ≡ fits (central c w)
-  all-fit w f g = g ∙ fit-words c w fit-core _ _ _ _ refl refl refl refl
+      → f ≡ tablesFit w (c .counts .waiting) (c .counts .results) (c .counts .characteristics) (c .counts .notifications) (c .counters .links) → f ≡ fits (central c w)
+  all-fit w f g = g ∙ fit-words c w fit-core _ _ _ _ _ refl refl refl refl refl

@@ -24,37 +24,41 @@ pub fn core_fits(c: Core) -> bool
 
 // Whether what is in use of the tables is fit. Of the reports nothing is left to test: no word says a length that is too long.
 pub fn tables_fit(
-    tables: &[u64; 1056],
+    tables: &[u64; 1152],
     waiting: usize,
     results: usize,
     characteristics: usize,
     notifications: usize,
+    links: u64,
 ) -> bool
     requires { ⌜ (waiting ≤ mostSteps) × (results ≤ mostResults) × (characteristics ≤ mostCharacteristics) × (notifications ≤ mostNotifications) ⌝ }
-    ensures { λ r. ⌜ r ≡ tablesFit (now (tables .entry)) waiting results characteristics notifications ⌝ }
+    ensures { λ r. ⌜ r ≡ tablesFit (now (tables .entry)) waiting results characteristics notifications links ⌝ }
 {
     words_step::steps_fit(tables, waiting)
         & words_result::results_fit(tables, results)
         & words_characteristic::is_rising(tables, characteristics)
         & words_notification::values_fit(tables, notifications)
+        & words_notification::links_fit(tables, notifications, links)
 }
 
 // ---- the gates: refusals 1 to 3, the first that applies
 
 // Of a call that may send.
-pub fn gate(c: Core, tables: &[u64; 1056], store_len: usize, out_len: usize, at: Micros) -> u8
+pub fn gate(c: Core, tables: &[u64; 1152], store_len: usize, out_len: usize, at: Micros) -> u8
     ensures { λ r. ⌜ r ≡ gate (central c (now (tables .entry))) «store_len» «out_len» at ⌝ }
 {
     if !core_fits(c) {
         return refusal::UNFIT;
     }
     let n = c.counts;
+    let k = c.counters;
     let fit = tables_fit(
         tables,
         n.waiting,
         n.results,
         n.characteristics,
         n.notifications,
+        k.links,
     );
     let sized = state_refusals::sizes_fit(store_len, out_len);
     let late = time::too_late(at);
@@ -62,19 +66,21 @@ pub fn gate(c: Core, tables: &[u64; 1056], store_len: usize, out_len: usize, at:
 }
 
 // Of a call that sends nothing.
-pub fn gate_quiet(c: Core, tables: &[u64; 1056], store_len: usize, at: Micros) -> u8
+pub fn gate_quiet(c: Core, tables: &[u64; 1152], store_len: usize, at: Micros) -> u8
     ensures { λ r. ⌜ r ≡ gateQuiet (central c (now (tables .entry))) «store_len» at ⌝ }
 {
     if !core_fits(c) {
         return refusal::UNFIT;
     }
     let n = c.counts;
+    let k = c.counters;
     let fit = tables_fit(
         tables,
         n.waiting,
         n.results,
         n.characteristics,
         n.notifications,
+        k.links,
     );
     let sized = store_len == state_places::STORE_SIZE;
     let timely = !time::too_late(at);
@@ -82,19 +88,21 @@ pub fn gate_quiet(c: Core, tables: &[u64; 1056], store_len: usize, at: Micros) -
 }
 
 // Of a call that only reads.
-pub fn gate_reader(c: Core, tables: &[u64; 1056], store_len: usize) -> u8
+pub fn gate_reader(c: Core, tables: &[u64; 1152], store_len: usize) -> u8
     ensures { λ r. ⌜ r ≡ gateReader (central c (now (tables .entry))) «store_len» ⌝ }
 {
     if !core_fits(c) {
         return refusal::UNFIT;
     }
     let n = c.counts;
+    let k = c.counters;
     let fit = tables_fit(
         tables,
         n.waiting,
         n.results,
         n.characteristics,
         n.notifications,
+        k.links,
     );
     let sized = store_len == state_places::STORE_SIZE;
     state_refusals::first_refusal(fit, sized, true)

@@ -58,6 +58,7 @@ pub fn kind_of(step: Step) -> u8
         Step::WaitNotification {
             characteristic: _,
             within_ms: _,
+            age: _,
         } => WAIT_NOTIFICATION,
         Step::Wait { ms: _ } => WAIT,
         Step::Disconnect => DISCONNECT,

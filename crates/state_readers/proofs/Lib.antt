@@ -1,2 +1,3 @@
 pub mod ReaderLaws
 pub mod LentLaws
+pub mod PassedLaws

@@ -1,2 +1,3 @@
 pub mod Readers
 pub mod Numbers
+pub mod Sample

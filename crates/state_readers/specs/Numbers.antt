@@ -1,7 +1,9 @@
 -- What a reader answers, as numbers (01, 'Language forms': a definition gives each case's number and values): its refusal, 1 if there is what was
 -- asked for, its values. Numbers that an answer does not use are 0.
 use Prim.Native.Nat.{ℕ}
+use mathlib.Core.Bool.{Bool}
 use mathlib.Core.List.{List, [], _∷_}
+use Rattle.bytes.specs.Choice.{pick}
 use Rattle.state.specs.declared.StepStatus.{StepStatus}
 use Rattle.state.specs.declared.StepStatus.the-variants as status
 use Rattle.state_readers.specs.declared.Timer.{Timer}
@@ -10,6 +12,8 @@ use Rattle.state_readers.specs.declared.Handle.{Handle}
 use Rattle.state_readers.specs.declared.Handle.the-variants as handle
 use Rattle.state_readers.specs.declared.Given.{Given}
 use Rattle.state_readers.specs.declared.Given.the-variants as given
+use Rattle.state_readers.specs.declared.Passed.{Passed}
+use Rattle.state_readers.specs.declared.Passed.the-variants as passed
 
 abbrev pub eight : ℕ → ℕ → ℕ → ℕ → ℕ → ℕ → ℕ → ℕ → List ℕ
 eight a b c d e f g h = a ∷ b ∷ c ∷ d ∷ e ∷ f ∷ g ∷ h ∷ []
@@ -54,3 +58,13 @@ abbrev pub givenWords : Given → List ℕ
 givenWords (given.Refused why) = eight why 0 0 0 0 0 0 0
 givenWords given.Nothing = eight 0 0 0 0 0 0 0 0
 givenWords (given.Is at s place len) = eight 0 1 (at .0) (statusNumber s) (statusCode s) place len 0
+
+-- ---- a notification: time | link | handle | 1 if it is an indication | its value's place in the store | its value's length
+
+abbrev pub flagNumber : Bool → ℕ
+flagNumber b = pick b 1 0
+
+abbrev pub passedWords : Passed → List ℕ
+passedWords (passed.Refused why) = eight why 0 0 0 0 0 0 0
+passedWords passed.Nothing = eight 0 0 0 0 0 0 0 0
+passedWords (passed.Is at link handle indication place len) = eight 0 1 (at .0) link handle (flagNumber indication) place len

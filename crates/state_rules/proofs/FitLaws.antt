@@ -9,7 +9,7 @@ use borrow.Author.Tests.{le-leb, leb-true, eq-eqb, eqb-true}
 use Rattle.bytes.specs.Choice.{within}
 use Rattle.state_places.specs.Sizes.{mostSteps, mostResults, mostReports, mostNotifications, mostServices, mostCharacteristics, mostKeys, frameSize, dataSize}
 use Rattle.lists.specs.Queue.{all}
-use Rattle.notifications.specs.Kept.{live, valuesFit}
+use Rattle.notifications.specs.Kept.{live, valuesFit, linksFit}
 use Rattle.gatt_characteristics.specs.Characteristic.{known, rises, upFrom}
 use Rattle.state.specs.Central.{Central, withReports, withKeys}
 use Rattle.state.specs.Fresh.{freshCentral}
@@ -20,7 +20,7 @@ use Rattle.state.specs.declared.Running.{Running}
 use Rattle.state.specs.declared.Reports.{Reports}
 use Rattle.state.specs.declared.Keys.{Keys}
 use Rattle.state_rules.specs.Steps.{implies, defaultMtu, mostMtu, stepFits, attStep}
-use Rattle.state_rules.specs.Fit.{counted, countsFit, heldFits, kept, resultsFit, dataLengths, responseLengths, noResponse, lengthsFit, mtuFits, runningFits, waiting, stepsFit, phaseFits, awaits, isRequest, pendingFits, idleFits, mostNotified, notifiedFits, waitFits, mostRefused, refusedFits, lastIndex, indexFits, lastDeadline, deadlineFits, fits}
+use Rattle.state_rules.specs.Fit.{counted, countsFit, heldFits, kept, resultsFit, dataLengths, responseLengths, noResponse, lengthsFit, mtuFits, runningFits, waiting, stepsFit, phaseFits, awaits, isRequest, pendingFits, idleFits, mostNotified, notifiedFits, waitFits, mostRefused, refusedFits, lastIndex, indexFits, lastDeadline, deadlineFits, mostLinks, linkCountFits, fits}
 use Rattle.state_rules.specs.Parts.{countersFit, stepFit, bearerFits, headFits}
 use Rattle.state_rules.specs.Facts.{Head, Fit}
 
@@ -81,6 +81,7 @@ pub record Clauses (n : Counts) (k : Counters) (b : Bearer) (r : Running) (repor
   pub refused : refusedFits k ≡ true
   pub index : indexFits k (n .waiting) ≡ true
   pub deadline : deadlineFits r ≡ true
+  pub links : linkCountFits k ≡ true
 
 module _ (n : Counts) (k : Counters) (b : Bearer) (r : Running) (reports keys : ℕ) where
   counts : List Bool
@@ -124,6 +125,7 @@ module _ (n : Counts) (k : Counters) (b : Bearer) (r : Running) (reports keys : 
         refused = leb-true (k .«refused_steps») mostRefused (f .refused);
         index = leb-true (k .«next_index» + n .waiting) lastIndex (f .index);
         deadline = λ p q. leb-true (r .deadline .0) lastDeadline (if-true (r .active && r .dated) (leb (r .deadline .0) lastDeadline) (f .deadline) (join (r .active) (r .dated) p q));
+        links = leb-true (k .links) mostLinks (f .links);
       }
     where
       asks : awaits b ≡ true → ((isRequest (b .link .pending) && r .active) ≡ true) × (attStep (r .step) ≡ true)
@@ -145,6 +147,7 @@ module _ (n : Counts) (k : Counters) (b : Bearer) (r : Running) (reports keys : 
         refused = le-leb (k .«refused_steps») mostRefused (h .refused);
         index = le-leb (k .«next_index» + n .waiting) lastIndex (h .index);
         deadline = true-if (r .active && r .dated) (leb (r .deadline .0) lastDeadline) (λ p. le-leb (r .deadline .0) lastDeadline (h .deadline (both (r .active) (r .dated) p .0) (both (r .active) (r .dated) p .1)));
+        links = le-leb (k .links) mostLinks (h .links);
       }
 
   -- the code's test of them
@@ -166,6 +169,7 @@ module _ (n : Counts) (k : Counters) (b : Bearer) (r : Running) (reports keys : 
         refused = tally .1;
         index = counters .1;
         deadline = run .1;
+        links = numbers .1;
       })
     where
       ends : ((countsFit n reports keys && countersFit k n && stepFit r (n .waiting)) ≡ true) × (bearerFits b r ≡ true)
@@ -183,15 +187,18 @@ module _ (n : Counts) (k : Counters) (b : Bearer) (r : Running) (reports keys : 
       steps : ((runningFits r && phaseFits r) ≡ true) × (idleFits r (n .waiting) ≡ true)
       steps = both (runningFits r && phaseFits r) (idleFits r (n .waiting)) (run .0)
 
+      numbers : ((notifiedFits k (n .notifications) && waitFits k && refusedFits k && indexFits k (n .waiting)) ≡ true) × (linkCountFits k ≡ true)
+      numbers = both (notifiedFits k (n .notifications) && waitFits k && refusedFits k && indexFits k (n .waiting)) (linkCountFits k) (both (countsFit n reports keys) (countersFit k n) (front .0) .1)
+
       counters : ((notifiedFits k (n .notifications) && waitFits k && refusedFits k) ≡ true) × (indexFits k (n .waiting) ≡ true)
-      counters = both (notifiedFits k (n .notifications) && waitFits k && refusedFits k) (indexFits k (n .waiting)) (both (countsFit n reports keys) (countersFit k n) (front .0) .1)
+      counters = both (notifiedFits k (n .notifications) && waitFits k && refusedFits k) (indexFits k (n .waiting)) (numbers .0)
 
       tally : ((notifiedFits k (n .notifications) && waitFits k) ≡ true) × (refusedFits k ≡ true)
       tally = both (notifiedFits k (n .notifications) && waitFits k) (refusedFits k) (counters .0)
 
   pub of-head : Head n k b r reports keys → headFits n k b r reports keys ≡ true
   unfolding headFits countersFit stepFit bearerFits
-  of-head h = let f = clauses h in rw (f .counts, f .notified, f .from, f .refused, f .index, f .step, f .phase, f .idle, f .deadline, f .held, f .mtu, f .pending)
+  of-head h = let f = clauses h in rw (f .counts, f .notified, f .from, f .refused, f .index, f .links, f .step, f .phase, f .idle, f .deadline, f .held, f .mtu, f .pending)
 
 -- ---- fit
 
@@ -218,6 +225,8 @@ tests c =
     ∷ refusedFits (c .counters)
     ∷ indexFits (c .counters) (c .queue .count)
     ∷ deadlineFits (c .running)
+    ∷ linkCountFits (c .counters)
+    ∷ linksFit (c .counters .links) (live (c .notifications))
     ∷ []
 
 test-at : (c : Central) (i : ℕ) → fits c ≡ true → getD (tests c) i true ≡ true
@@ -242,6 +251,7 @@ fit-of c e =
             refused = test-at c 15 e;
             index = test-at c 16 e;
             deadline = test-at c 17 e;
+            links = test-at c 18 e;
           });
       results = test-at c 2 e;
       values = test-at c 3 e;
@@ -249,13 +259,14 @@ fit-of c e =
       responses = test-at c 5 e;
       steps = test-at c 8 e;
       rising = test-at c 12 e;
+      linked = test-at c 19 e;
     }
 
 pub of-fit : (c : Central) → Fit c → fits c ≡ true
 unfolding fits
 of-fit c f =
     let k : Numbers c = clauses (counted c) (c .counters) (c .bearer) (c .running) (c .reports .count) (c .keys .count) (f .head) in
-    rw (k .counts, k .held, f .results, f .values, f .lengths, f .responses, k .mtu, k .step, f .steps, k .phase, k .pending, k .idle, f .rising, k .notified, k .from, k .refused, k .index, k .deadline)
+    rw (k .counts, k .held, f .results, f .values, f .lengths, f .responses, k .mtu, k .step, f .steps, k .phase, k .pending, k .idle, f .rising, k .notified, k .from, k .refused, k .index, k .deadline, k .links, f .linked)
 
 -- a state of which something fails that fit has isn't fit
 pub unfit : (c : Central) (x : Bool) → (Fit c → x ≡ true) → x ≡ false → fits c ≡ false
@@ -297,6 +308,7 @@ recounted c m n p q f =
       refused = h .refused;
       index = h .index;
       deadline = h .deadline;
+      links = h .links;
     }
 
 pub fit-reports : (c : Central) (r : Reports) → Fit c → r .count ≤ mostReports → lengthsFit dataSize (dataLengths r) ≡ true → lengthsFit noResponse (responseLengths r) ≡ true → Fit (withReports c r)
@@ -309,6 +321,7 @@ fit-reports c r f p d e =
       responses = e;
       steps = f .steps;
       rising = f .rising;
+      linked = f .linked;
     }
 
 pub fit-keys : (c : Central) (k : Keys) → Fit c → k .count ≤ mostKeys → Fit (withKeys c k)
@@ -321,6 +334,7 @@ fit-keys c k f q =
       responses = f .responses;
       steps = f .steps;
       rising = f .rising;
+      linked = f .linked;
     }
 
 -- ---- the fresh state

@@ -3,7 +3,7 @@ use Prim.Native.Nat.{ℕ, _+_, _≤_}
 use mathlib.Core.Path.{_≡_}
 use mathlib.Core.Bool.{true, false}
 use Rattle.state_places.specs.Sizes.{mostSteps, mostResults, mostReports, mostNotifications, mostServices, mostCharacteristics, mostKeys, frameSize, dataSize}
-use Rattle.notifications.specs.Kept.{live, valuesFit}
+use Rattle.notifications.specs.Kept.{live, valuesFit, linksFit}
 use Rattle.gatt_characteristics.specs.Characteristic.{known, rises}
 use Rattle.state.specs.Central.{Central}
 use Rattle.state.specs.declared.Counts.{Counts}
@@ -11,7 +11,7 @@ use Rattle.state.specs.declared.Counters.{Counters}
 use Rattle.state.specs.declared.Bearer.{Bearer}
 use Rattle.state.specs.declared.Running.{Running}
 use Rattle.state_rules.specs.Steps.{defaultMtu, mostMtu, stepFits, attStep}
-use Rattle.state_rules.specs.Fit.{counted, kept, resultsFit, lengthsFit, dataLengths, responseLengths, noResponse, waiting, stepsFit, awaits, isRequest, mostNotified, mostRefused, lastIndex, lastDeadline}
+use Rattle.state_rules.specs.Fit.{counted, kept, resultsFit, lengthsFit, dataLengths, responseLengths, noResponse, waiting, stepsFit, awaits, isRequest, mostNotified, mostRefused, lastIndex, lastDeadline, mostLinks}
 
 -- of the numbers
 pub record Head (n : Counts) (k : Counters) (b : Bearer) (r : Running) (heard asked : ℕ) : Type 0 where
@@ -37,6 +37,7 @@ pub record Head (n : Counts) (k : Counters) (b : Bearer) (r : Running) (heard as
   pub refused : k .«refused_steps» ≤ mostRefused
   pub index : k .«next_index» + n .waiting ≤ lastIndex
   pub deadline : r .active ≡ true → r .dated ≡ true → r .deadline .0 ≤ lastDeadline
+  pub links : k .links ≤ mostLinks
 
 -- of the whole
 pub record Fit (c : Central) : Type 0 where
@@ -47,3 +48,4 @@ pub record Fit (c : Central) : Type 0 where
   pub responses : lengthsFit noResponse (responseLengths (c .reports)) ≡ true
   pub steps : stepsFit (waiting (c .queue)) ≡ true
   pub rising : rises (known (c .characteristics)) ≡ true
+  pub linked : linksFit (c .counters .links) (live (c .notifications)) ≡ true

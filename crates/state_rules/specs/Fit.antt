@@ -1,4 +1,4 @@
--- When a state is fit (01, 'Refusal numbers', "Fit means"), clause by clause. Live entries alone count; with no link present the
+-- When a state is fit (01, 'Refusal numbers', "Fit means"; 02, One), clause by clause. Live entries alone count; with no link present the
 -- link's fields are free, and with no step active the running step's. A place of the store follows from a position (01, 'Sizes'; crate state_places):
 -- it is always inside its part and overlaps no other, so that of 01's second clause nothing is left to test.
 use Prim.Native.Nat.{ℕ}
@@ -10,7 +10,7 @@ use Rattle.bytes.specs.Choice.{within}
 use Rattle.state_places.specs.Sizes.{mostSteps, mostResults, mostReports, mostNotifications, mostServices, mostCharacteristics, mostKeys, resultSize, frameSize, dataSize}
 use Rattle.lists.specs.Queue.{all}
 use Rattle.lists.specs.Blocks.{fitting}
-use Rattle.notifications.specs.Kept.{live, valuesFit}
+use Rattle.notifications.specs.Kept.{live, valuesFit, linksFit}
 use Rattle.gatt_characteristics.specs.Characteristic.{known, rises}
 use Rattle.att_pdu.specs.Numbers.{opExchangeMtuReq, opFindInformationReq, opReadByTypeReq, opReadReq, opReadByGroupTypeReq, opWriteReq}
 use Rattle.state.specs.Central.{Central}
@@ -21,7 +21,7 @@ use Rattle.state.specs.declared.Running.{Running}
 use Rattle.state.specs.declared.Queued.{Queued}
 use Rattle.state.specs.declared.StepResult.{StepResult}
 use Rattle.state.specs.declared.Reports.{Reports}
-pub use Rattle.state_counters.specs.Counters.{mostNotified, notifiedFits, waitFits, mostRefused, refusedFits, lastIndex, indexFits}
+pub use Rattle.state_counters.specs.Counters.{mostNotified, notifiedFits, waitFits, mostRefused, refusedFits, lastIndex, indexFits, mostLinks, linkCountFits}
 use Rattle.state_rules.specs.Steps.{implies, defaultMtu, mostMtu, stepFits, attStep}
 
 -- ---- counts within the sizes
@@ -110,6 +110,8 @@ idleFits r waiting = r .active || eqb waiting 0
 -- ---- kept notifications <= notified <= 2^62; wait_from <= notified; refused_steps <= 2^62 + 64; next index + waiting <= 4,294,967,295:
 -- notifiedFits, waitFits, refusedFits and indexFits, of crate state_counters
 
+-- ---- link count <= 2^62, no kept link number above it (02, One): linkCountFits, of crate state_counters; linksFit, of crate notifications
+
 -- ---- a deadline at most 2^63
 
 abbrev pub lastDeadline : ℕ
@@ -140,3 +142,5 @@ fits c =
     && refusedFits (c .counters)
     && indexFits (c .counters) (c .queue .count)
     && deadlineFits (c .running)
+    && linkCountFits (c .counters)
+    && linksFit (c .counters .links) (live (c .notifications))

@@ -51,6 +51,7 @@ fn mtu_named(step: Step) -> u16
         Step::WaitNotification {
             characteristic: _,
             within_ms: _,
+            age: _,
         } => 0,
         Step::Wait { ms: _ } => 0,
         Step::Disconnect => 0,

@@ -17,7 +17,6 @@ use Rattle.lists.proofs.BlockLaws.{drop-past}
 use Rattle.time.specs.declared.Micros.{Micros}
 use Rattle.state.specs.Fresh.{noQueued}
 use Rattle.state.specs.Central.{withBearer}
-use Rattle.state.specs.declared.Bearer.{Bearer}
 use Rattle.state.specs.declared.Queue.{Queue}
 use Rattle.state.specs.declared.Keys.{Keys}
 use Rattle.state.specs.declared.Reports.{Reports}
@@ -29,16 +28,17 @@ use Rattle.script_rules.specs.World.{Held, World, onHeld, onState}
 use Rattle.script_rules.specs.Waiting.{waiting, queueing, takeStep}
 use Rattle.script_rules.specs.Start.{start}
 use Rattle.script_rules.specs.Sound.{Sound}
-use Rattle.script_rules.proofs.KeepTurns.{stays-bearer, stays-absent}
+use Rattle.script_rules.proofs.KeepTurns.{stays-absent}
 use Rattle.script_rules.proofs.KeepStarts.{stays-ends}
+use Rattle.script_rules.proofs.KeepEvents.{stays-new}
 use Rattle.script_rules.specs.Script.{canGo, stepOnce}
 use Rattle.script_rules.proofs.AdvanceLaws.{GoesOn, goes-on, stepped}
 use Rattle.script_rules.proofs.CallBeginLaws.{sound-stays}
-use Rattle.script_rules.specs.Events.{linked, unlinked}
+use Rattle.script_rules.specs.Events.{withNewLink, unlinked}
 use Rattle.link_rules.specs.Channel.{onChannel}
 use Rattle.thm_trail.specs.Trail.{Pass, final, met, parted}
 use Rattle.thm_trail.specs.Log.{keptResults, upTo, newer, gave, givenIn}
-use Rattle.thm_trail.proofs.Hops.{Sizes, Still, Hop, ended, began, meets, parts, still, acted, Hops, none, more}
+use Rattle.thm_trail.proofs.Hops.{Sizes, Still, Hop, ended, began, meets, parts, still, acted, Hops, none, more, still-values}
 use Rattle.thm_accounting.specs.InLine.{inLine}
 use Rattle.thm_accounting.proofs.Numbered.{Numbered, numbered-snoc, gave-none, gave-one}
 use Rattle.thm_accounting.proofs.Gives.{Whole, Same, Goes-on, Ends, Gives, nothing, one, kept-values}
@@ -278,7 +278,7 @@ books-began l q w at s g b =
 rests-still : (h g : Held) → Whole h → Sizes (h .state) → Still h g → Rests h g
 rests-still h g w z s =
     record {
-      results = kept-values h g w (s .results) (s .values);
+      results = kept-values h g w (s .results) (still-values s);
       queue = s .queue;
       active = ap (λ (r : Running). r .active) (s .running);
       step = ap (λ (r : Running). r .step) (s .running);
@@ -288,16 +288,20 @@ rests-still h g w z s =
       sizes = s .sizes z;
     }
 
--- another link
-rests-bearer : (h : Held) (x : Bearer) → Sizes (h .state) → Rests h (onState h (withBearer (h .state) x))
-rests-bearer h x z =
+-- a link comes
+rests-new : (h : Held) (handle : ℕ) → Sizes (h .state) → Rests h (onState h (withNewLink (h .state) handle))
+rests-new h handle z =
+    record { results = refl; queue = refl; active = refl; step = refl; len = refl; index = refl; «next» = refl; sizes = record { queue = z .queue; results = z .results; reports = z .reports; keys = z .keys } }
+
+-- or goes
+rests-gone : (h : Held) → Sizes (h .state) → Rests h (onState h (withBearer (h .state) (unlinked (h .state .bearer))))
+rests-gone h z =
     record { results = refl; queue = refl; active = refl; step = refl; len = refl; index = refl; «next» = refl; sizes = record { queue = z .queue; results = z .results; reports = z .reports; keys = z .keys } }
 
 pub sound-hop : {w : World} {p : Pass} → Hop w p → Sound 65 w → Sound 65 (p .to)
 sound-hop (ended w at st n) s = sound-stays 65 w _ s (stays-ends (w .held) at st (s .nearly))
 sound-hop (began w at t g) s = stepped w at t s g .sound
-sound-hop (meets w handle) s =
-    sound-stays 65 w _ s (stays-bearer (w .held) (linked handle) (s .nearly) (record { held = λ p. omega arith; mtuLow = λ p. omega arith; mtuHigh = λ p. omega arith }) refl)
+sound-hop (meets w handle few) s = sound-stays 65 w _ s (stays-new (w .held) handle few (s .nearly))
 sound-hop (parts w) s = sound-stays 65 w _ s (stays-absent (w .held) (unlinked (w .held .state .bearer)) (s .nearly) refl)
 sound-hop (still w g t) s =
     record {
@@ -311,8 +315,8 @@ pub books-hop : (l : List (Valued StepResult)) (q : List Queued) {w : World} {p 
     → Books (l ++ gave (w .held) (p .to .held)) q (p .to .held)
 books-hop l q (ended w at st n) s b = books-gives l q (w .held) _ b (gives-ends (w .held) at st (whole w s (b .sizes)))
 books-hop l q (began w at t g) s b = books-began l q w at s g b
-books-hop l q (meets w handle) s b = books-rest l q (w .held) (met w handle .held) b (rests-bearer (w .held) (linked handle) (b .sizes))
-books-hop l q (parts w) s b = books-rest l q (w .held) (parted w .held) b (rests-bearer (w .held) (unlinked (w .held .state .bearer)) (b .sizes))
+books-hop l q (meets w handle few) s b = books-rest l q (w .held) (met w handle .held) b (rests-new (w .held) handle (b .sizes))
+books-hop l q (parts w) s b = books-rest l q (w .held) (parted w .held) b (rests-gone (w .held) (b .sizes))
 books-hop l q (still w g t) s b = books-rest l q (w .held) g b (rests-still (w .held) g (whole w s (b .sizes)) (b .sizes) t)
 books-hop l q (acted w at channel n o t) s b = books-gives l q (w .held) (onChannel w at channel n .held) b (gives-channel w at channel n (o .short) (whole w s (b .sizes)))
 

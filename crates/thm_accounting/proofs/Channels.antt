@@ -195,7 +195,7 @@ gives-descriptors-heard w at n format (which-service.At svc) k = go (eqb (widthO
 
 -- a read's value fits its block
 gives-value : (w : World) (at : Micros) (n : ℕ) → n ≤ payloadSize → Whole (w .held) → Gives at (w .held) (valueRead w at n .held)
-gives-value w at n s k = gives-finish (w .held) at Ok (payloadAt + 1) (n - 1) k (omega (arith, s)) (omega (arith, s))
+gives-value w at n s k = gives-finish (w .held) at Ok (payloadAt + 1) (n - 1) 0 k (omega (arith, s)) (omega (arith, s))
 
 gives-present : (w : World) (at : Micros) (n : ℕ) (a : Asked) → n ≤ payloadSize → Whole (w .held) → Gives at (w .held) (present w at n a .held)
 unfolding present

@@ -150,9 +150,9 @@ pub apart-state : {h : Held} {c : Central} → c .counters .«next_index» ≡ h
 apart-state a b d e f i j k l m n = record { «next» = a; queue = b; index = d; active = e; step = i; len = j; reports = k; keys = l; present = m; handle = n; results = f; values = λ x p y q. refl }
 
 -- a step ends: the n bytes of the store from `from` on are its value
-module _ (h : Held) (at : Micros) (st : StepStatus) (from n : ℕ) (w : Whole h) (room : from + n ≤ storeSize) (small : n ≤ resultSize) where
+module _ (h : Held) (at : Micros) (st : StepStatus) (from n heard : ℕ) (w : Whole h) (room : from + n ≤ storeSize) (small : n ≤ resultSize) where
   abbrev r : StepResult
-  r = record { index = h .state .running .index; at = at; status = st; len = n }
+  r = record { index = h .state .running .index; at = at; status = st; len = n; heard = heard }
 
   abbrev l : List StepResult
   l = kept (h .state .results)
@@ -163,7 +163,7 @@ module _ (h : Held) (at : Micros) (st : StepStatus) (from n : ℕ) (w : Whole h)
   abbrev new : Valued StepResult
   new = record { entry = r; value = bytes (h .store) from n }
 
-  pushes : keptResults (ended h at st from n) ≡ pushed mostResults (keptResults h) new
+  pushes : keptResults (ended h at st from n heard) ≡ pushed mostResults (keptResults h) new
   unfolding ended pushedResult
   pushes =
       ap (λ (t : List StepResult). valued (λ x. x .len) resultPart (stored resultPart (h .state .results .count) (h .store) from n (h .store)) 0 t)
@@ -172,11 +172,11 @@ module _ (h : Held) (at : Micros) (st : StepStatus) (from n : ℕ) (w : Whole h)
       ∙ valued-stored (λ x. x .len) resultPart (h .store) (h .store) from l r (omega (arith, w .store)) (omega (arith, w .store)) (omega arith)
       (omega (arith, many, w .few)) (w .fit) small
 
-  cells : length (ended h at st from n .state .results .kept) ≡ length (h .state .results .kept)
+  cells : length (ended h at st from n heard .state .results .kept) ≡ length (h .state .results .kept)
   unfolding ended pushedResult
   cells = length-onto (h .state .results .kept) (pushed mostResults l r) (omega (arith, pushed-within mostResults l r, w .cells))
 
-  ended-gives : h .state .running .active ≡ true → Gives at h (ended h at st from n)
+  ended-gives : h .state .running .active ≡ true → Gives at h (ended h at st from n heard)
   unfolding ended
   ended-gives e =
       one
@@ -191,14 +191,14 @@ module _ (h : Held) (at : Micros) (st : StepStatus) (from n : ℕ) (w : Whole h)
       })
 
   -- of a step that runs: its result, with its value
-  pub finish-pushes : h .state .running .active ≡ true → keptResults (finish h at st from n) ≡ pushed mostResults (keptResults h) new
+  pub finish-pushes : h .state .running .active ≡ true → keptResults (finish h at st from n heard) ≡ pushed mostResults (keptResults h) new
   unfolding finish
-  finish-pushes e = ap (λ (b : Bool). keptResults (pick b (ended h at st from n) h)) e ∙ pushes
+  finish-pushes e = ap (λ (b : Bool). keptResults (pick b (ended h at st from n heard) h)) e ∙ pushes
 
-  pub gives-finish : Gives at h (finish h at st from n)
+  pub gives-finish : Gives at h (finish h at st from n heard)
   unfolding finish
   gives-finish = go (h .state .running .active) refl
     where
-      go : (b : Bool) → h .state .running .active ≡ b → Gives at h (pick b (ended h at st from n) h)
+      go : (b : Bool) → h .state .running .active ≡ b → Gives at h (pick b (ended h at st from n heard) h)
       go true e = ended-gives e
       go false e = gives-none h

@@ -8,6 +8,8 @@ use lib.Dec.{eqb, ltb}
 use Rattle.bytes.specs.Choice.{pick}
 use Rattle.state_places.specs.Sizes.{heldAt, runningAt}
 use Rattle.time.specs.declared.Micros.{Micros}
+use Rattle.notifications.specs.declared.Age.{Age}
+use Rattle.notifications.specs.declared.Wanted.{Wanted}
 use Rattle.gatt_services.specs.declared.Service.{Service}
 use Rattle.gatt_services.specs.declared.Which as service-which
 use Rattle.gatt_services.specs.declared.Which.the-variants as service-variants
@@ -24,7 +26,7 @@ use Rattle.state.specs.declared.Step.the-variants.{Scan, Connect, ExchangeMtu, 
 use Rattle.state.specs.declared.StepStatus.{StepStatus}
 use Rattle.state.specs.declared.StepStatus.the-variants.{Ok, TooLong}
 use Rattle.script_rules.specs.World.{Held, World, onHeld, onState}
-use Rattle.script_rules.specs.Finish.{finish, withLink}
+use Rattle.script_rules.specs.Finish.{withLink}
 use Rattle.script_rules.specs.Send.{request}
 use Rattle.l2cap.specs.Frame.{attPdu}
 use Rattle.att_pdu.specs.Numbers.{opWriteReq}
@@ -34,13 +36,13 @@ use Rattle.script_rules.specs.declared.Alone.{Alone}
 use Rattle.script_rules.specs.declared.Alone.the-variants as alone
 use Rattle.script_rules.specs.declared.Awaited.{Awaited}
 use Rattle.script_rules.specs.declared.Awaited.the-variants as awaited-variants
-use Rattle.script_rules.specs.Wait.{waitPasses, passed, checkOne, awaited, checkFor, checkWait}
+use Rattle.script_rules.specs.Wait.{wanted, waitPasses, passedOn, passed, passing, checkOne, awaited, checkFor, checkWait}
 use Rattle.script_rules.specs.Start.{ends, waitsFor, unlinkedStep, startAlone, startUnlinked, forgotten, discoverIn, subscribeAt, subscribe, commanded, write, read, terminated, asksTo, disconnect, startLinked, start}
 use Rattle.thm_accounting.proofs.Gives.{Whole, Gives, nothing, gives-none, gives-then, Apart, apart, apart-state, gives-finish, whole-same}
 
 -- the step ends with no value
 pub gives-ends : (h : Held) (at : Micros) (st : StepStatus) → Whole h → Gives at h (ends h at st)
-gives-ends h at st w = gives-finish h at st heldAt 0 w (omega arith) (omega arith)
+gives-ends h at st w = gives-finish h at st heldAt 0 0 w (omega arith) (omega arith)
 
 -- a change of other parts of the state
 pub quiet : {at : Micros} {h : Held} {c : Central} → Whole h → Apart h (onState h c) → Gives at h (onState h c)
@@ -78,28 +80,25 @@ gives-characteristics w at svc from k = go (ltb (svc .end) from || eqb from 0)
 
 -- ---- the wait check
 
-gives-one : (h : Held) (at : Micros) (x : Which) → Whole h → Gives at h (checkOne h at x)
+gives-passing : (h : Held) (at : Micros) (w : Wanted) → Whole h → Gives at h (passing h at w)
+gives-passing h at w k =
+    let g = onState h (withCounters (h .state) (passed (h .state .counters))) in
+    let a : Apart h g = apart-state refl refl refl refl refl refl refl refl refl refl refl in
+    gives-then (apart k a) (gives-finish g at Ok heldAt 0 (passedOn (h .state) w (w .age)) (whole-same k refl refl) (omega arith) (omega arith))
+
+gives-one : (h : Held) (at : Micros) (age : Age) (x : Which) → Whole h → Gives at h (checkOne h at age x)
 unfolding checkOne
-gives-one h at Nothing k = gives-finish h at _ heldAt 0 k (omega arith) (omega arith)
-gives-one h at (At x) k = go (waitPasses h (x .«value_handle»))
+gives-one h at age Nothing k = gives-finish h at _ heldAt 0 0 k (omega arith) (omega arith)
+gives-one h at age (At x) k = let w = wanted (h .state) at (x .«value_handle») age in go w (waitPasses h w)
   where
-    g : Held
-    g = onState h (withCounters (h .state) (passed (h .state .counters)))
-
-    a : Apart h g
-    a = apart-state refl refl refl refl refl refl refl refl refl refl refl
-
-    w : Whole g
-    w = whole-same k refl refl
-
-    go : (b : Bool) → Gives at h (pick b (finish g at Ok heldAt 0) h)
-    go true = gives-then (apart k a) (gives-finish g at Ok heldAt 0 w (omega arith) (omega arith))
-    go false = gives-none h
+    go : (w : Wanted) (b : Bool) → Gives at h (pick b (passing h at w) h)
+    go w true = gives-passing h at w k
+    go w false = gives-none h
 
 gives-for : (h : Held) (at : Micros) (x : Awaited) → Whole h → Gives at h (checkFor h at x)
 unfolding checkFor
 gives-for h at awaited-variants.Nothing k = gives-none h
-gives-for h at (awaited-variants.On u) k = gives-one h at _ k
+gives-for h at (awaited-variants.On u age) k = gives-one h at age _ k
 
 pub gives-check : (h : Held) (at : Micros) → Whole h → Gives at h (checkWait h at)
 unfolding checkWait
@@ -175,7 +174,7 @@ gives-linked w at (DiscoverCharacteristics u) k = gives-in w at _ k
 gives-linked w at (Subscribe u indicate) k = gives-subscribe w at indicate _ k
 gives-linked w at (Write u response) k = gives-write w at response _ k
 gives-linked w at (Read u) k = gives-read w at _ k
-gives-linked w at (WaitNotification u ms) k =
+gives-linked w at (WaitNotification u ms age) k =
     gives-then (apart {g = waitsFor (w .held) at ms} k (apart-state refl refl refl refl refl refl refl refl refl refl refl)) (gives-check (waitsFor (w .held) at ms) at (whole-same k refl refl))
 gives-linked w at (Wait ms) k = quiet k (apart-state refl refl refl refl refl refl refl refl refl refl refl)
 gives-linked w at Disconnect k = gives-disconnect w k

@@ -20,7 +20,7 @@ use Rattle.link_rules.specs.Channel.{onChannel}
 use Rattle.thm_trail.specs.Calls.{Call, timeOf, fresh, run, done?}
 use Rattle.thm_trail.specs.Trail.{Pass, begins, goes, met, parted}
 use Rattle.thm_trail.specs.Log.{keptResults, noValued, upTo, newer, gave, givenIn, givenBy, roomFor, log, taken}
-use Rattle.thm_trail.proofs.Hops.{Hop, ended, began, meets, parts, still, acted, At, Hops, none, more, AllAt}
+use Rattle.thm_trail.proofs.Hops.{Hop, ended, began, meets, parts, still, acted, At, Hops, none, more, AllAt, still-values}
 use Rattle.thm_trail.proofs.Goes.{good}
 use Rattle.thm_accounting.proofs.Gives.{Whole, Gives, nothing, one, kept-values}
 use Rattle.thm_accounting.proofs.Starts.{gives-ends, gives-start}
@@ -64,9 +64,9 @@ stamped-hop : (at : Micros) (l : List (Valued StepResult)) (q : List Queued) {w 
 stamped-hop at l q (ended w t st n) e s b =
     subst (λ (i : Micros). Stamped i (gave (w .held) (ends (w .held) t st))) e (stamped-gives t l q (w .held) (ends (w .held) t st) b (gives-ends (w .held) t st (whole w s (b .sizes))))
 stamped-hop at l q (began w t k g) e s b = subst (λ (i : Micros). Stamped i (gave (w .held) (stepOnce w t .held))) e (stamped-began l q w t s g b)
-stamped-hop at l q (meets w handle) e s b = stamped-none at _ (none-gave l q (w .held) (met w handle .held) b refl)
+stamped-hop at l q (meets w handle few) e s b = stamped-none at _ (none-gave l q (w .held) (met w handle .held) b refl)
 stamped-hop at l q (parts w) e s b = stamped-none at _ (none-gave l q (w .held) (parted w .held) b refl)
-stamped-hop at l q (still w g t) e s b = stamped-none at _ (none-gave l q (w .held) g b (kept-values (w .held) g (whole w s (b .sizes)) (t .results) (t .values)))
+stamped-hop at l q (still w g t) e s b = stamped-none at _ (none-gave l q (w .held) g b (kept-values (w .held) g (whole w s (b .sizes)) (t .results) (still-values t)))
 stamped-hop at l q (acted w t channel n o k) e s b =
     subst (λ (i : Micros). Stamped i (gave (w .held) (onChannel w t channel n .held))) e
     (stamped-gives t l q (w .held) (onChannel w t channel n .held) b (gives-channel w t channel n (o .short) (whole w s (b .sizes))))

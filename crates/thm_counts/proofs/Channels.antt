@@ -38,7 +38,7 @@ use Rattle.link_rules.specs.Responses.{askedBy, over, become, serviceOf, entrie
 use Rattle.link_rules.specs.Att.{searches, accesses, silent, otherRequest, byOpcode, onAtt}
 use Rattle.link_rules.specs.Channel.{onChannel}
 use Rattle.thm_trail.specs.Trail.{att-heard, cameOn}
-use Rattle.thm_counts.specs.Tally.{noticed}
+use Rattle.thm_counts.specs.Tally.{noticed, linksCame}
 use Rattle.thm_counts.proofs.Kept.{Kept, kept-none, kept-then, still, kept-finish, kept-ends, kept-services, kept-descriptors, kept-characteristics, kept-check}
 
 -- ---- responses
@@ -158,7 +158,7 @@ kept-descriptors-heard w at n format (which-service.At svc) = go (eqb (widthOf f
     go false = kept-descriptors-found w at svc _
 
 kept-value : (w : World) (at : Micros) (n : ℕ) → Kept (w .held) (valueRead w at n .held)
-kept-value w at n = kept-finish (w .held) at Ok (payloadAt + 1) (n - 1)
+kept-value w at n = kept-finish (w .held) at Ok (payloadAt + 1) (n - 1) 0
 
 kept-present : (w : World) (at : Micros) (n : ℕ) (a : Asked) → Kept (w .held) (present w at n a .held)
 unfolding present
@@ -205,36 +205,37 @@ kept-response w at n = go (counts (w .held .state .bearer .link .pending) (paylo
 
 -- ---- a frame as a whole
 
--- n more are notified
-pub record Moves (h g : Held) (n : ℕ) : Type 0 where
+-- n more are notified, and m more links are counted
+pub record Moves (h g : Held) (n m : ℕ) : Type 0 where
   pub notified : g .state .counters .notified ≡ h .state .counters .notified + n
   pub refused : g .state .counters .«refused_steps» ≡ h .state .counters .«refused_steps»
+  pub links : g .state .counters .links ≡ h .state .counters .links + m
 
-pub of-kept : {h g : Held} → Kept h g → Moves h g 0
-of-kept k = record { notified = omega (arith, k .notified); refused = k .refused }
+pub of-kept : {h g : Held} → Kept h g → Moves h g 0 0
+of-kept k = record { notified = omega (arith, k .notified); refused = k .refused; links = omega (arith, k .links) }
 
-pub moves-then : {h g i : Held} {n m : ℕ} → Moves h g n → Moves g i m → Moves h i (n + m)
-moves-then a b = record { notified = omega (arith, a .notified, b .notified); refused = b .refused ∙ a .refused }
+pub moves-then : {h g i : Held} {n m k l : ℕ} → Moves h g n m → Moves g i k l → Moves h i (n + k) (m + l)
+moves-then a b = record { notified = omega (arith, a .notified, b .notified); refused = b .refused ∙ a .refused; links = omega (arith, a .links, b .links) }
 
-keeps-one : (h : Held) (at : Micros) (handle n : ℕ) (indication : Bool) → Moves h (keepOne h at handle n indication) 1
+keeps-one : (h : Held) (at : Micros) (handle n : ℕ) (indication : Bool) → Moves h (keepOne h at handle n indication) 1 0
 unfolding keepOne
-keeps-one h at handle n indication = record { notified = refl; refused = refl }
+keeps-one h at handle n indication = record { notified = refl; refused = refl; links = omega arith }
 
-moves-notice : (w : World) (at : Micros) (n : ℕ) (indication : Bool) → Moves (w .held) (notice w at n indication .held) 1
+moves-notice : (w : World) (at : Micros) (n : ℕ) (indication : Bool) → Moves (w .held) (notice w at n indication .held) 1 0
 unfolding notice
 moves-notice w at n indication =
     let g = keepOne (w .held) at (leAt 2 (payload (w .held) n) 1) (n - 3) indication in
     let a = keeps-one (w .held) at (leAt 2 (payload (w .held) n) 1) (n - 3) indication in
     let b = kept-check g at in
-    record { notified = b .notified ∙ a .notified; refused = b .refused ∙ a .refused }
+    record { notified = b .notified ∙ a .notified; refused = b .refused ∙ a .refused; links = b .links ∙ a .links }
 
 kept-exchange : (w : World) (theirs : ℕ) → Kept (w .held) (exchange w theirs .held)
 unfolding exchange
-kept-exchange w theirs = record { notified = refl; refused = refl }
+kept-exchange w theirs = record { notified = refl; refused = refl; links = refl }
 
 -- by whether the opcode and the length are a notification's
 moves-opcode : (w : World) (at : Micros) (n op handle : ℕ)
-    → Moves (w .held) (byOpcode w at n op handle .held) (pick (among op (opHandleValueNtf ∷ opHandleValueInd ∷ []) && leb 3 n) 1 0)
+    → Moves (w .held) (byOpcode w at n op handle .held) (pick (among op (opHandleValueNtf ∷ opHandleValueInd ∷ []) && leb 3 n) 1 0) 0
 unfolding byOpcode
 moves-opcode w at n op handle =
     go (among op (opHandleValueNtf ∷ opHandleValueInd ∷ []) && leb 3 n) (eqb op opExchangeMtuReq) (among op searches) (among op accesses) (among op silent) (otherRequest op)
@@ -247,7 +248,7 @@ moves-opcode w at n op handle =
         (pick d (onTold w (refuse (w .told) op handle errInvalidHandle))
         (pick e w
         (pick f (onTold w (refuse (w .told) op 0 errRequestNotSupported)) (onResponse w at n)))))) .held)
-        (pick a 1 0)
+        (pick a 1 0) 0
     go true b c d e f = moves-notice w at n (eqb op opHandleValueInd)
     go false true c d e f = of-kept (kept-exchange w handle)
     go false false true d e f = of-kept (kept-none (w .held))
@@ -256,12 +257,12 @@ moves-opcode w at n op handle =
     go false false false false false true = of-kept (kept-none (w .held))
     go false false false false false false = of-kept (kept-response w at n)
 
-nothing-heard : (h : Held) (a : Bool) → Moves h h (pick (a && false) 1 0)
+nothing-heard : (h : Held) (a : Bool) → Moves h h (pick (a && false) 1 0) 0
 nothing-heard h true = of-kept (kept-none h)
 nothing-heard h false = of-kept (kept-none h)
 
 moves-att : (w : World) (at : Micros) (n : ℕ)
-    → Moves (w .held) (onAtt w at n .held) (pick (among (getD (payload (w .held) n) 0 0) (opHandleValueNtf ∷ opHandleValueInd ∷ []) && leb 3 n) 1 0)
+    → Moves (w .held) (onAtt w at n .held) (pick (among (getD (payload (w .held) n) 0 0) (opHandleValueNtf ∷ opHandleValueInd ∷ []) && leb 3 n) 1 0) 0
 unfolding onAtt
 moves-att w at n = go (eqb n 0) refl
   where
@@ -271,13 +272,13 @@ moves-att w at n = go (eqb n 0) refl
     a : Bool
     a = among (getD p 0 0) (opHandleValueNtf ∷ opHandleValueInd ∷ [])
 
-    go : (b : Bool) → eqb n 0 ≡ b → Moves (w .held) (pick b w (byOpcode w at n (getD p 0 0) (leAt 2 p 1)) .held) (pick (a && leb 3 n) 1 0)
-    go true e = subst (λ (m : ℕ). Moves (w .held) (w .held) (pick (a && leb 3 m) 1 0)) (sym (eqb-true n 0 e)) (nothing-heard (w .held) a)
+    go : (b : Bool) → eqb n 0 ≡ b → Moves (w .held) (pick b w (byOpcode w at n (getD p 0 0) (leAt 2 p 1)) .held) (pick (a && leb 3 n) 1 0) 0
+    go true e = subst (λ (m : ℕ). Moves (w .held) (w .held) (pick (a && leb 3 m) 1 0) 0) (sym (eqb-true n 0 e)) (nothing-heard (w .held) a)
     go false e = moves-opcode w at n (getD p 0 0) (leAt 2 p 1)
 
 -- what came in is what is counted
 pub moves-channel : (w : World) (at : Micros) (channel n : ℕ) → length (w .held .store) ≡ storeSize → n ≤ payloadSize
-    → Moves (w .held) (onChannel w at channel n .held) (noticed (cameOn channel (payload (w .held) n)))
+    → Moves (w .held) (onChannel w at channel n .held) (noticed (cameOn channel (payload (w .held) n))) (linksCame (cameOn channel (payload (w .held) n)))
 unfolding onChannel
 moves-channel w at channel n s k = go (eqb channel cidAtt) (eqb channel cidSignaling) (eqb channel cidSmp)
   where
@@ -290,15 +291,16 @@ moves-channel w at channel n s k = go (eqb channel cidAtt) (eqb channel cidSigna
     a : Bool
     a = among (getD p 0 0) (opHandleValueNtf ∷ opHandleValueInd ∷ [])
 
-    att : Moves (w .held) (onAtt w at n .held) (pick (a && leb 3 (length p)) 1 0 + 0)
+    att : Moves (w .held) (onAtt w at n .held) (pick (a && leb 3 (length p)) 1 0 + 0) 0
     att =
-        let m = subst (λ (x : ℕ). Moves (w .held) (onAtt w at n .held) (pick (a && leb 3 x) 1 0)) (sym long) (moves-att w at n) in
-        record { notified = omega (arith, m .notified); refused = m .refused }
+        let m = subst (λ (x : ℕ). Moves (w .held) (onAtt w at n .held) (pick (a && leb 3 x) 1 0) 0) (sym long) (moves-att w at n) in
+        record { notified = omega (arith, m .notified); refused = m .refused; links = m .links }
 
     go : (x y z : Bool)
         → Moves (w .held)
         (pick x (onAtt w at n) (pick y (onTold w (onSignaling (w .told) (payload (w .held) n))) (pick z (onTold w (onSmp (w .told) (payload (w .held) n))) w)) .held)
         (noticed (pick x (att-heard p ∷ []) []))
+        (linksCame (pick x (att-heard p ∷ []) []))
     go true y z = att
     go false true z = of-kept (kept-none (w .held))
     go false false true = of-kept (kept-none (w .held))

@@ -1,4 +1,4 @@
--- What leaves both counters as they are: all that a step does when it begins, and when it ends.
+-- What leaves the three counts as they are: all that a step does when it begins, and when it ends.
 use Prim.Native.Nat.{ℕ, _+_}
 use mathlib.Core.Path.{_≡_, refl, ap, _∙_}
 use mathlib.Core.Bool.{Bool, true, false, _||_}
@@ -8,6 +8,8 @@ use Rattle.bytes.specs.Choice.{pick}
 use Rattle.state_places.specs.Sizes.{heldAt, runningAt}
 use Rattle.time.specs.declared.Micros.{Micros}
 use Rattle.time.specs.declared.Millis.{Millis}
+use Rattle.notifications.specs.declared.Age.{Age}
+use Rattle.notifications.specs.declared.Wanted.{Wanted}
 use Rattle.gatt_services.specs.declared.Service.{Service}
 use Rattle.gatt_services.specs.declared.Which as service-which
 use Rattle.gatt_services.specs.declared.Which.the-variants as service-variants
@@ -36,42 +38,43 @@ use Rattle.script_rules.specs.declared.Alone.{Alone}
 use Rattle.script_rules.specs.declared.Alone.the-variants as alone
 use Rattle.script_rules.specs.declared.Awaited.{Awaited}
 use Rattle.script_rules.specs.declared.Awaited.the-variants as awaited-variants
-use Rattle.script_rules.specs.Wait.{waitPasses, passed, checkOne, awaited, checkFor, checkWait}
+use Rattle.script_rules.specs.Wait.{wanted, waitPasses, passedOn, passed, passing, checkOne, awaited, checkFor, checkWait}
 use Rattle.script_rules.specs.Start.{ends, waitsFor, unlinkedStep, startAlone, startUnlinked, forgotten, discoverIn, subscribeAt, subscribe, commanded, write, read, terminated, asksTo, disconnect, startLinked, start}
 
 pub record Kept (h g : Held) : Type 0 where
   pub notified : g .state .counters .notified ≡ h .state .counters .notified
   pub refused : g .state .counters .«refused_steps» ≡ h .state .counters .«refused_steps»
+  pub links : g .state .counters .links ≡ h .state .counters .links
 
 pub kept-none : (h : Held) → Kept h h
-kept-none h = record { notified = refl; refused = refl }
+kept-none h = record { notified = refl; refused = refl; links = refl }
 
 pub kept-then : {h g i : Held} → Kept h g → Kept g i → Kept h i
-kept-then a b = record { notified = b .notified ∙ a .notified; refused = b .refused ∙ a .refused }
+kept-then a b = record { notified = b .notified ∙ a .notified; refused = b .refused ∙ a .refused; links = b .links ∙ a .links }
 
 -- a change of other parts of the state
 pub still : {h : Held} {c : Central} → c .counters ≡ h .state .counters → Kept h (onState h c)
-still e = record { notified = ap (λ (k : Counters). k .notified) e; refused = ap (λ (k : Counters). k .«refused_steps») e }
+still e = record { notified = ap (λ (k : Counters). k .notified) e; refused = ap (λ (k : Counters). k .«refused_steps») e; links = ap (λ (k : Counters). k .links) e }
 
-pub kept-finish : (h : Held) (at : Micros) (st : StepStatus) (from n : ℕ) → Kept h (finish h at st from n)
+pub kept-finish : (h : Held) (at : Micros) (st : StepStatus) (from n heard : ℕ) → Kept h (finish h at st from n heard)
 unfolding finish ended
-kept-finish h at st from n = go (h .state .running .active)
+kept-finish h at st from n heard = go (h .state .running .active)
   where
-    go : (b : Bool) → Kept h (pick b (ended h at st from n) h)
-    go true = record { notified = refl; refused = refl }
+    go : (b : Bool) → Kept h (pick b (ended h at st from n heard) h)
+    go true = record { notified = refl; refused = refl; links = refl }
     go false = kept-none h
 
 kept-waits : (h : Held) (at : Micros) (ms : Millis) → Kept h (waitsFor h at ms)
-kept-waits h at ms = record { notified = refl; refused = refl }
+kept-waits h at ms = record { notified = refl; refused = refl; links = refl }
 
 -- the first waiting step is taken: it has the next number, and nothing else is counted
 pub kept-take : (h : Held) → Kept h (takeStep h)
 unfolding takeStep
-kept-take h = record { notified = refl; refused = refl }
+kept-take h = record { notified = refl; refused = refl; links = refl }
 
 -- the step ends with no value
 pub kept-ends : (h : Held) (at : Micros) (st : StepStatus) → Kept h (ends h at st)
-kept-ends h at st = kept-finish h at st heldAt 0
+kept-ends h at st = kept-finish h at st heldAt 0 0
 
 pub kept-request : (w : World) (at : Micros) (pdu : List ℕ) → Kept (w .held) (request w at pdu .held)
 unfolding request
@@ -105,25 +108,25 @@ kept-characteristics w at svc from = go (ltb (svc .end) from || eqb from 0)
 
 -- ---- the wait check
 
-kept-one : (h : Held) (at : Micros) (x : Which) → Kept h (checkOne h at x)
+kept-passing : (h : Held) (at : Micros) (w : Wanted) → Kept h (passing h at w)
+kept-passing h at w =
+    let g = onState h (withCounters (h .state) (passed (h .state .counters))) in
+    let a : Kept h g = record { notified = refl; refused = refl; links = refl } in
+    kept-then a (kept-finish g at Ok heldAt 0 (passedOn (h .state) w (w .age)))
+
+kept-one : (h : Held) (at : Micros) (age : Age) (x : Which) → Kept h (checkOne h at age x)
 unfolding checkOne
-kept-one h at Nothing = kept-finish h at _ heldAt 0
-kept-one h at (At x) = go (waitPasses h (x .«value_handle»))
+kept-one h at age Nothing = kept-finish h at _ heldAt 0 0
+kept-one h at age (At x) = let w = wanted (h .state) at (x .«value_handle») age in go w (waitPasses h w)
   where
-    g : Held
-    g = onState h (withCounters (h .state) (passed (h .state .counters)))
-
-    a : Kept h g
-    a = record { notified = refl; refused = refl }
-
-    go : (b : Bool) → Kept h (pick b (finish g at Ok heldAt 0) h)
-    go true = kept-then a (kept-finish g at Ok heldAt 0)
-    go false = kept-none h
+    go : (w : Wanted) (b : Bool) → Kept h (pick b (passing h at w) h)
+    go w true = kept-passing h at w
+    go w false = kept-none h
 
 kept-for : (h : Held) (at : Micros) (x : Awaited) → Kept h (checkFor h at x)
 unfolding checkFor
 kept-for h at awaited-variants.Nothing = kept-none h
-kept-for h at (awaited-variants.On u) = kept-one h at _
+kept-for h at (awaited-variants.On u age) = kept-one h at age _
 
 pub kept-check : (h : Held) (at : Micros) → Kept h (checkWait h at)
 unfolding checkWait
@@ -198,7 +201,7 @@ kept-linked w at (DiscoverCharacteristics u) = kept-in w at _
 kept-linked w at (Subscribe u indicate) = kept-subscribe w at indicate _
 kept-linked w at (Write u response) = kept-write w at response _
 kept-linked w at (Read u) = kept-read w at _
-kept-linked w at (WaitNotification u ms) =
+kept-linked w at (WaitNotification u ms age) =
     kept-then (kept-waits (w .held) at ms) (kept-check (waitsFor (w .held) at ms) at)
 kept-linked w at (Wait ms) = still refl
 kept-linked w at Disconnect = kept-disconnect w

@@ -28,6 +28,7 @@ record Next (h g : Held) (x : Bool) : Type 0 where
   count : g .state .queue .count ≡ h .state .queue .count + pick x 1 0
   notified : g .state .counters .notified ≡ h .state .counters .notified
   refused : g .state .counters .«refused_steps» ≡ h .state .counters .«refused_steps» + pick x 0 1
+  links : g .state .counters .links ≡ h .state .counters .links
 
 pushed-one : (h : Held) (values : List ℕ) (p : Placed) → length (h .state .queue .kept) ≡ mostSteps → h .state .queue .count ≤ mostSteps
     → Next h (pushOne h values p) (ltb (h .state .queue .count) mostSteps)
@@ -61,13 +62,15 @@ pushed-one h values p cells few = go (ltb n mostSteps) refl
           count = long;
           notified = refl;
           refused = omega arith;
+          links = refl;
         }
-    go false e = record { cells = cells; few = few; count = omega arith; notified = refl; refused = refl }
+    go false e = record { cells = cells; few = few; count = omega arith; notified = refl; refused = refl; links = refl }
 
 -- all of them: those that were taken in and those that were refused are those handed in
 pub record Pushed (h g : Held) (in-all handed : ℕ) : Type 0 where
   pub notified : g .state .counters .notified ≡ h .state .counters .notified
   pub refused : g .state .counters .«refused_steps» + in-all ≡ h .state .counters .«refused_steps» + handed
+  pub links : g .state .counters .links ≡ h .state .counters .links
 
 nil : (m : ℕ) → length (queuedAll (take m [])) ≡ 0
 nil zero = refl
@@ -76,7 +79,7 @@ nil (suc m) = refl
 pub pushed-all : (h : Held) (values : List ℕ) (ps : List Placed) → length (h .state .queue .kept) ≡ mostSteps → h .state .queue .count ≤ mostSteps
     → Pushed h (pushAll h values ps) (length (queuedAll (take (mostSteps - h .state .queue .count) ps))) (length ps)
 unfolding pushAll
-pushed-all h values [] cells few = record { notified = refl; refused = omega (arith, nil (mostSteps - h .state .queue .count)) }
+pushed-all h values [] cells few = record { notified = refl; refused = omega (arith, nil (mostSteps - h .state .queue .count)); links = refl }
 pushed-all h values (p ∷ ps) cells few =
     let g = pushOne h values p in
     let a = pushed-one h values p cells few in
@@ -97,11 +100,11 @@ pushed-all h values (p ∷ ps) cells few =
         let r : n < mostSteps = ltb-true n mostSteps e in
         let d : mostSteps - n ≡ suc (mostSteps - k) = omega (arith, a .count) in
         let t : length (queuedAll (take (mostSteps - n) (p ∷ ps))) ≡ suc (length (queuedAll (take (mostSteps - k) ps))) = ap (λ (j : ℕ). length (queuedAll (take j (p ∷ ps)))) d in
-        record { notified = i .notified ∙ a .notified; refused = omega (arith, t, i .refused, a .refused) }
+        record { notified = i .notified ∙ a .notified; refused = omega (arith, t, i .refused, a .refused); links = i .links ∙ a .links }
     go false e a i =
         let r : mostSteps ≤ n = ltb-false n mostSteps e in
         let d : mostSteps - n ≡ 0 = omega arith in
         let d' : mostSteps - k ≡ 0 = omega (arith, a .count) in
         let t : length (queuedAll (take (mostSteps - n) (p ∷ ps))) ≡ 0 = ap (λ (j : ℕ). length (queuedAll (take j (p ∷ ps)))) d in
         let t' : length (queuedAll (take (mostSteps - k) ps)) ≡ 0 = ap (λ (j : ℕ). length (queuedAll (take j ps))) d' in
-        record { notified = i .notified ∙ a .notified; refused = omega (arith, t, t', i .refused, a .refused) }
+        record { notified = i .notified ∙ a .notified; refused = omega (arith, t, t', i .refused, a .refused); links = i .links ∙ a .links }

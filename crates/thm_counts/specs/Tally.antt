@@ -1,4 +1,4 @@
--- What `refused_steps` and `notified` count: the steps that the calls handed in, the notifications among what came in with them.
+-- What `refused_steps`, `notified` and `links` count: the steps that the calls handed in, the notifications and the links among what came in with them.
 use Prim.Native.Nat.{ℕ, _+_}
 use mathlib.Core.Bool.{Bool, _&&_}
 use mathlib.Core.List.{List, [], _∷_}
@@ -44,3 +44,11 @@ noticed [] = 0
 noticed (link-came handle ∷ l) = noticed l
 noticed (link-went ∷ l) = noticed l
 noticed (att-heard p ∷ l) = pick (isNotice p) 1 0 + noticed l
+
+-- ---- links that came (02, One)
+
+abbrev pub linksCame : List News → ℕ
+linksCame [] = 0
+linksCame (link-came handle ∷ l) = 1 + linksCame l
+linksCame (link-went ∷ l) = linksCame l
+linksCame (att-heard p ∷ l) = linksCame l

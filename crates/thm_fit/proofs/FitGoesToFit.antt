@@ -1,9 +1,8 @@
 -- Fit goes to fit (01, 'Refusal numbers'): whatever a call is given, and whether it is refused or not. No call after it gets refusal 1.
-use Prim.Native.Nat.{ℕ, _≤_}
+use Prim.Native.Nat.{ℕ, _≤_, _<_}
 use mathlib.Core.Path.{_≡_, refl, sym, ap, subst}
 use mathlib.Core.Bool.{Bool, true, false, false≢true}
 use mathlib.Core.List.{List}
-use native.Mathlib.Omega.{arith}
 use lib.ListN.{length}
 use lib.Dec.{eqb}
 use borrow.Author.Tests.{eqb-true}
@@ -13,9 +12,9 @@ use Rattle.time.specs.declared.Micros.{Micros}
 use Rattle.time.specs.Clock.{latest}
 use Rattle.state.specs.Central.{Central, withBearer}
 use Rattle.state.specs.Fresh.{freshCentral}
-use Rattle.state.specs.declared.StepStatus.the-variants.{Ok}
 use Rattle.state_rules.specs.Facts.{Fit}
 use Rattle.state_rules.proofs.FitLaws as fit
+use Rattle.state_rules.specs.Fit.{mostLinks}
 use Rattle.state_rules.specs.Gate.{gate, gateQuiet}
 use Rattle.state_rules.specs.Refusals.{accepted}
 use Rattle.script_rules.specs.World.{Held, World, onHeld, onState}
@@ -25,17 +24,18 @@ use Rattle.script_rules.specs.BatchSteps.{steps}
 use Rattle.script_rules.specs.Waiting.{pushAll}
 use Rattle.script_rules.specs.Timed.{narrow, Timed}
 use Rattle.script_rules.specs.Sound.{Sound, Whole}
-use Rattle.script_rules.proofs.KeepTurns.{Stays, then, timed-of, narrow-of, stays-bearer, stays-absent}
+use Rattle.script_rules.proofs.KeepTurns.{Stays, then, timed-of, narrow-of, stays-absent}
 use Rattle.script_rules.proofs.KeepWaiting.{push-all-timed}
 use Rattle.script_rules.proofs.KeepStarts.{stays-ends}
+use Rattle.script_rules.proofs.KeepEvents.{stays-met}
 use Rattle.script_rules.specs.Script.{advance}
 use Rattle.script_rules.proofs.AdvanceLaws.{advanced, advanced-alone}
 use Rattle.script_rules.proofs.UnlinkedLaws.{present-finish, advance-unlinked}
 use Rattle.script_rules.specs.Outcome.{Outcome, Quiet, begins, done, refused, quietly, quietlyRefused}
-use Rattle.script_rules.proofs.CallBeginLaws.{sound-stays, whole-stays, may-begin, may-begin-quietly}
+use Rattle.script_rules.proofs.CallBeginLaws.{sound-stays, whole-stays, may-begin, may-begin-quietly, may-connect}
 use Rattle.script_rules.specs.Batch.{gateBatch, pushSteps}
 use Rattle.script_rules.proofs.CallLaws.{passed-batch, pushed-sound}
-use Rattle.script_rules.specs.Events.{timedOut, due, expire, onTimer, linked, isConnect, connect, onConnected, unlinked, goesOn, cutStatus, cutOff, silent, lose, onDisconnected}
+use Rattle.script_rules.specs.Events.{timedOut, due, expire, onTimer, greeted, withNewLink, gateConnected, connect, onConnected, unlinked, goesOn, cutStatus, cutOff, silent, lose, onDisconnected}
 use Rattle.thm_fit.specs.Lasting.{Lasting, narrowBatch}
 
 -- the same as facts
@@ -68,19 +68,10 @@ module _ (at : Micros) (time : at .0 ≤ latest) where
       by true = goes-on w (ends (w .held) at (timedOut (w .held .state .running .step))) s (k .timed) (stays-ends (w .held) at (timedOut (w .held .state .running .step)) (s .nearly))
       by false = k
 
-  connected : (w : World) (handle : ℕ) → Sound 65 w → Kept (w .held .state) → Kept (connect w handle at .held .state)
+  connected : (w : World) (handle : ℕ) → w .held .state .counters .links < mostLinks → Sound 65 w → Kept (w .held .state) → Kept (connect w handle at .held .state)
   unfolding connect
-  connected w handle s k = goes-on w (pick (isConnect (g .state .running .step)) (ends g at Ok) g) s (k .timed) (by (isConnect (g .state .running .step)))
-    where
-      g : Held
-      g = onState (w .held) (withBearer (w .held .state) (linked handle))
-
-      new : Stays (w .held) g
-      new = stays-bearer (w .held) (linked handle) (s .nearly) (record { held = λ p. omega arith; mtuLow = λ p. omega arith; mtuHigh = λ p. omega arith }) refl
-
-      by : (b : Bool) → Stays (w .held) (pick b (ends g at Ok) g)
-      by true = then (w .held) g (ends g at Ok) new (stays-ends g at Ok (new .nearly))
-      by false = new
+  connected w handle few s k =
+      goes-on w (greeted (onState (w .held) (withNewLink (w .held .state) handle)) at) s (k .timed) (stays-met (w .held) handle at few (s .nearly))
 
   lost : (h : Held) → Whole h → Kept (h .state) → Kept (lose h at .state)
   unfolding lose cutOff
@@ -97,7 +88,7 @@ module _ (at : Micros) (time : at .0 ≤ latest) where
 
       away : (b : Bool) → pick b g (ends g at (cutStatus (g .state .running .step))) .state .bearer .present ≡ false
       away true = refl
-      away false = present-finish g at (cutStatus (g .state .running .step)) _ 0
+      away false = present-finish g at (cutStatus (g .state .running .step)) _ 0 0
 
       gone : Stays h g
       gone = stays-absent h (unlinked (h .state .bearer)) (w .nearly) refl
@@ -148,13 +139,13 @@ module _ (c : Central) (l : Lasting c) (store : List ℕ) where
   on-connected-lasts out handle at = by (eqb g accepted) refl
     where
       g : ℕ
-      g = gate c (length store) (length out) at
+      g = gateConnected c (length store) (length out) at
 
       by : (x : Bool) → eqb g accepted ≡ x → Lasting (pick {A = Outcome} x (done (connect (begins c store out) handle at)) (refused c g store out) .state)
       by false e = l
       by true e =
-          let p = may-begin c store out at (eqb-true g 0 e) in
-          lasts (connect (begins c store out) handle at .held .state) (connected at (p .1) (begins c store out) handle (p .0) (kept-of c l))
+          let p = may-connect c store out at (eqb-true g 0 e) in
+          lasts (connect (begins c store out) handle at .held .state) (connected at (p .1) (begins c store out) handle (p .2) (p .0) (kept-of c l))
 
   pub on-disconnected-lasts : (at : Micros) → Lasting (onDisconnected c store at .state)
   unfolding onDisconnected

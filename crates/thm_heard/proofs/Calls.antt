@@ -23,6 +23,7 @@ use Rattle.state.specs.declared.StepResult.{StepResult}
 use Rattle.state.specs.declared.Step.{Step}
 use Rattle.state.specs.declared.StepStatus.{StepStatus}
 use Rattle.state.specs.declared.StepStatus.the-variants.{Ok}
+use Rattle.state_rules.specs.Fit.{mostLinks}
 use Rattle.state_rules.specs.Refusals.{accepted, longFrame}
 use Rattle.state_rules.proofs.GateLaws.{passed, passed-quiet}
 use Rattle.script_rules.specs.World.{Held, World, onHeld, onState}
@@ -36,7 +37,7 @@ use Rattle.script_rules.specs.Script.{canGo, stepOnce}
 use Rattle.script_rules.specs.Events.{timedOut, due, isConnect, goesOn, cutStatus}
 use Rattle.script_rules.proofs.KeepTurns.{Stays}
 use Rattle.script_rules.proofs.KeepStarts.{stays-ends}
-use Rattle.script_rules.proofs.CallBeginLaws.{sound-stays}
+use Rattle.script_rules.proofs.CallBeginLaws.{sound-stays, passed-connected}
 use Rattle.script_rules.proofs.CallLaws.{passed-batch}
 use Rattle.radio_rules.specs.Hearing as radio
 use Rattle.link_rules.specs.Payload.{payload}
@@ -106,9 +107,10 @@ timer-hearing a w at t s k = go (due (w .held .state .running) at)
     go true = record { brings = brings-quiet w (thenOnward v at) (refl, quiet-onward v at); tied = tied-keeps a (keeps-over w at st t s) k }
     go false = record { brings = brings-quiet w [] tt; tied = k }
 
-connected-hearing : (w : World) (handle : ℕ) (at : Micros) → at .0 ≤ latest → Sound 65 w → Hearing w (connectedTrail w handle at) (link-came handle ∷ []) (link handle [])
+connected-hearing : (w : World) (handle : ℕ) (at : Micros) → at .0 ≤ latest → w .held .state .counters .links < mostLinks → Sound 65 w
+    → Hearing w (connectedTrail w handle at) (link-came handle ∷ []) (link handle [])
 unfolding connectedTrail
-connected-hearing w handle at t s = go (isConnect (u .held .state .running .step))
+connected-hearing w handle at t few s = go (isConnect (u .held .state .running .step))
   where
     u : World
     u = met w handle
@@ -120,7 +122,7 @@ connected-hearing w handle at t s = go (isConnect (u .held .state .running .step
     p = record { came = link-came handle ∷ []; to = u }
 
     sound : Sound 65 u
-    sound = sound-hop (meets w handle) s
+    sound = sound-hop (meets w handle few) s
 
     here : Linked handle [] (u .held)
     here = record { present = refl; named = refl; held = refl; there = refl }
@@ -304,8 +306,8 @@ hearing a l q h (timer out at) e k t =
     let p = passed (h .state) (length (h .store)) (length out) at (eqb-true (gateOf h (timer out at)) 0 e) in
     timer-hearing a (begins h (timer out at)) at (p .time) (good h (timer out at) e (k .sizes) .sound) t
 hearing a l q h (connected out handle at) e k t =
-    let p = passed (h .state) (length (h .store)) (length out) at (eqb-true (gateOf h (connected out handle at)) 0 e) in
-    connected-hearing (begins h (connected out handle at)) handle at (p .time) (good h (connected out handle at) e (k .sizes) .sound)
+    let p = passed-connected (h .state) (length (h .store)) (length out) at (eqb-true (gateOf h (connected out handle at)) 0 e) in
+    connected-hearing (begins h (connected out handle at)) handle at (p .shared .time) (p .links) (good h (connected out handle at) e (k .sizes) .sound)
 hearing a l q h (disconnected at) e k t =
     let p = passed-quiet (h .state) (length (h .store)) at (eqb-true (gateOf h (disconnected at)) 0 e) in
     disconnected-hearing (begins h (disconnected at)) at (p .time) (good h (disconnected at) e (k .sizes) .sound)

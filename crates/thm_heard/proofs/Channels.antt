@@ -156,7 +156,7 @@ bears-descriptors-heard w at n format (which-service.At svc) = go (eqb (widthOf 
     go false = bears-descriptors-found w at svc _
 
 bears-value : (w : World) (at : Micros) (n : ℕ) → Bears (w .held) (valueRead w at n .held)
-bears-value w at n = bears-finish (w .held) at Ok (payloadAt + 1) (n - 1)
+bears-value w at n = bears-finish (w .held) at Ok (payloadAt + 1) (n - 1) 0
 
 bears-present : (w : World) (at : Micros) (n : ℕ) (a : Asked) → Bears (w .held) (present w at n a .held)
 unfolding present

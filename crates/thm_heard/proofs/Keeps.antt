@@ -15,6 +15,8 @@ use Rattle.lists.proofs.BlockLaws.{drop-past, lowered-past}
 use Rattle.state_places.specs.Sizes.{mostSteps, mostResults, resultSize, valueSize, heldAt, runningAt, waitingAt}
 use Rattle.time.specs.declared.Micros.{Micros}
 use Rattle.time.specs.declared.Millis.{Millis}
+use Rattle.notifications.specs.declared.Age.{Age}
+use Rattle.notifications.specs.declared.Wanted.{Wanted}
 use Rattle.gatt_services.specs.declared.Service.{Service}
 use Rattle.gatt_services.specs.declared.Which as service-which
 use Rattle.gatt_services.specs.declared.Which.the-variants as service-variants
@@ -42,7 +44,7 @@ use Rattle.script_rules.specs.declared.Alone.{Alone}
 use Rattle.script_rules.specs.declared.Alone.the-variants as alone
 use Rattle.script_rules.specs.declared.Awaited.{Awaited}
 use Rattle.script_rules.specs.declared.Awaited.the-variants as awaited-variants
-use Rattle.script_rules.specs.Wait.{waitPasses, passed, checkOne, awaited, checkFor, checkWait}
+use Rattle.script_rules.specs.Wait.{wanted, waitPasses, passedOn, passed, passing, checkOne, awaited, checkFor, checkWait}
 use Rattle.script_rules.specs.Start.{ends, waitsFor, unlinkedStep, startAlone, startUnlinked, forgotten, discoverIn, subscribeAt, subscribe, commanded, write, read, terminated, asksTo, disconnect, startLinked, start}
 
 -- the link, its handle and the number of bytes held are as they were
@@ -85,25 +87,25 @@ above-result count src from n s m = go (ltb count mostResults) refl
     go true e = let r : count < mostResults = ltb-true count mostResults e in drop-past s (place resultPart count) src from n heldAt (omega (arith, r, m))
     go false e = drop-past (lowered resultPart s) (place resultPart 63) src from n heldAt (omega (arith, m)) ∙ lowered-past resultPart s heldAt (omega arith) (omega arith)
 
-pub bears-finish : (h : Held) (at : Micros) (st : StepStatus) (from n : ℕ) → Bears h (finish h at st from n)
+pub bears-finish : (h : Held) (at : Micros) (st : StepStatus) (from n heard : ℕ) → Bears h (finish h at st from n heard)
 unfolding finish ended
-bears-finish h at st from n = go (h .state .running .active)
+bears-finish h at st from n heard = go (h .state .running .active)
   where
-    go : (b : Bool) → Bears h (pick b (ended h at st from n) h)
+    go : (b : Bool) → Bears h (pick b (ended h at st from n heard) h)
     go true = record { held = refl; present = refl; handle = refl }
     go false = bears-none h
 
-above-finish : (h : Held) (at : Micros) (st : StepStatus) (from n : ℕ) → n ≤ resultSize → drop heldAt (finish h at st from n .store) ≡ drop heldAt (h .store)
+above-finish : (h : Held) (at : Micros) (st : StepStatus) (from n heard : ℕ) → n ≤ resultSize → drop heldAt (finish h at st from n heard .store) ≡ drop heldAt (h .store)
 unfolding finish ended
-above-finish h at st from n m = go (h .state .running .active)
+above-finish h at st from n heard m = go (h .state .running .active)
   where
-    go : (b : Bool) → drop heldAt (pick b (ended h at st from n) h .store) ≡ drop heldAt (h .store)
+    go : (b : Bool) → drop heldAt (pick b (ended h at st from n heard) h .store) ≡ drop heldAt (h .store)
     go true = above-result (h .state .results .count) (h .store) from n (h .store) m
     go false = refl
 
 -- the step ends with no value
 pub keeps-ends : (h : Held) (at : Micros) (st : StepStatus) → Keeps h (ends h at st)
-keeps-ends h at st = record { bears = bears-finish h at st heldAt 0; above = above-finish h at st heldAt 0 (omega arith) }
+keeps-ends h at st = record { bears = bears-finish h at st heldAt 0 0; above = above-finish h at st heldAt 0 0 (omega arith) }
 
 -- the first waiting step is taken: its value and those behind it move down
 pub keeps-take : (h : Held) → h .state .queue .count ≤ mostSteps → Keeps h (takeStep h)
@@ -152,25 +154,26 @@ keeps-characteristics w at svc from = go (ltb (svc .end) from || eqb from 0)
 
 -- ---- the wait check
 
-keeps-one : (h : Held) (at : Micros) (x : Which) → Keeps h (checkOne h at x)
+keeps-passing : (h : Held) (at : Micros) (w : Wanted) → Keeps h (passing h at w)
+keeps-passing h at w =
+    let g = onState h (withCounters (h .state) (passed (h .state .counters))) in
+    let a : Keeps h g = still refl refl refl in
+    let n = passedOn (h .state) w (w .age) in
+    keeps-then a (record { bears = bears-finish g at Ok heldAt 0 n; above = above-finish g at Ok heldAt 0 n (omega arith) })
+
+keeps-one : (h : Held) (at : Micros) (age : Age) (x : Which) → Keeps h (checkOne h at age x)
 unfolding checkOne
-keeps-one h at Nothing = keeps-ends h at _
-keeps-one h at (At x) = go (waitPasses h (x .«value_handle»))
+keeps-one h at age Nothing = keeps-ends h at _
+keeps-one h at age (At x) = let w = wanted (h .state) at (x .«value_handle») age in go w (waitPasses h w)
   where
-    g : Held
-    g = onState h (withCounters (h .state) (passed (h .state .counters)))
-
-    a : Keeps h g
-    a = still refl refl refl
-
-    go : (b : Bool) → Keeps h (pick b (finish g at Ok heldAt 0) h)
-    go true = keeps-then a (keeps-ends g at Ok)
-    go false = keeps-none h
+    go : (w : Wanted) (b : Bool) → Keeps h (pick b (passing h at w) h)
+    go w true = keeps-passing h at w
+    go w false = keeps-none h
 
 keeps-for : (h : Held) (at : Micros) (x : Awaited) → Keeps h (checkFor h at x)
 unfolding checkFor
 keeps-for h at awaited-variants.Nothing = keeps-none h
-keeps-for h at (awaited-variants.On u) = keeps-one h at _
+keeps-for h at (awaited-variants.On u age) = keeps-one h at age _
 
 pub keeps-check : (h : Held) (at : Micros) → Keeps h (checkWait h at)
 unfolding checkWait
@@ -245,7 +248,7 @@ keeps-linked w at (DiscoverCharacteristics u) = keeps-in w at _
 keeps-linked w at (Subscribe u indicate) = keeps-subscribe w at indicate _
 keeps-linked w at (Write u response) = keeps-write w at response _
 keeps-linked w at (Read u) = keeps-read w at _
-keeps-linked w at (WaitNotification u ms) =
+keeps-linked w at (WaitNotification u ms age) =
     keeps-then (keeps-waits (w .held) at ms) (keeps-check (waitsFor (w .held) at ms) at)
 keeps-linked w at (Wait ms) = still refl refl refl
 keeps-linked w at Disconnect = keeps-disconnect w

@@ -24,8 +24,8 @@ use Rattle.thm_trail.specs.Log.{noValued, log, taken}
 use Rattle.thm_trail.proofs.Ends.{refusedOf, does-law, refusal-is}
 use Rattle.thm_accounting.proofs.Books.{Books}
 use Rattle.thm_accounting.proofs.Accounting.{books-fresh, books-call}
-use Rattle.thm_counts.specs.Tally.{noticed}
-use Rattle.thm_counts.proofs.Along.{noticedAlong, noticedBy, notices}
+use Rattle.thm_counts.specs.Tally.{noticed, linksCame}
+use Rattle.thm_counts.proofs.Along.{along, countedBy, countedIn}
 use Rattle.thm_counts.proofs.Counted as counted
 use Rattle.thm_requests.specs.Turn.{InTurn}
 use Rattle.thm_requests.proofs.Turns.{in-turn}
@@ -72,34 +72,43 @@ pub tied-run : (a : Air) (l : List (Valued StepResult)) (q : List Queued) (h : H
 tied-run a l q h [] k t = t
 tied-run a l q h (c ∷ cs) k t = tied-run (after a c (does h c .refusal)) _ _ (left (does h c)) cs (books-call l q h c k) (same-call a l q h c k t .tied)
 
--- ---- notifications
+-- ---- what is counted of what came in
 
+module _ (f : List News → ℕ) (none : f [] ≡ 0) (append : (a b : List News) → f (a ++ b) ≡ f a + f b) where
+  count-along : (ps : List Pass) → along f ps ≡ f (newsAlong ps)
+  count-along [] = sym none
+  count-along (p ∷ ps) = omega (arith, count-along ps, append (p .came) (newsAlong ps))
+
+  count-by : (h : Held) (c : Call) → countedBy f h c ≡ f (pick (done? h c) (newsAlong (goes h c)) [])
+  count-by h c = go (done? h c)
+    where
+      go : (x : Bool) → pick x (along f (goes h c)) 0 ≡ f (pick x (newsAlong (goes h c)) [])
+      go true = count-along (goes h c)
+      go false = sym none
+
+  counts-same : (a : Air) (l : List (Valued StepResult)) (q : List Queued) (h : Held) (cs : List Call) → Books l q h → Tied a h → countedIn f h cs ≡ f (heard a h cs)
+  counts-same a l q h [] k t = sym none
+  counts-same a l q h (c ∷ cs) k t =
+      let s = same-call a l q h c k t in
+      let why = does h c .refusal in
+      let g = left (does h c) in
+      let x = counts-same (after a c why) _ _ g cs (books-call l q h c k) (s .tied) in
+      let y = count-by h c ∙ ap f (s .along) in
+      omega (arith, x, y, append (news a c why) (heard (after a c why) g cs))
+
+-- notifications
 noticed-append : (a b : List News) → noticed (a ++ b) ≡ noticed a + noticed b
 noticed-append [] b = omega arith
 noticed-append (link-came handle ∷ a) b = noticed-append a b
 noticed-append (link-went ∷ a) b = noticed-append a b
 noticed-append (att-heard p ∷ a) b = omega (arith, noticed-append a b)
 
-noticed-along : (ps : List Pass) → noticedAlong ps ≡ noticed (newsAlong ps)
-noticed-along [] = refl
-noticed-along (p ∷ ps) = omega (arith, noticed-along ps, noticed-append (p .came) (newsAlong ps))
-
-noticed-by : (h : Held) (c : Call) → noticedBy h c ≡ noticed (pick (done? h c) (newsAlong (goes h c)) [])
-noticed-by h c = go (done? h c)
-  where
-    go : (x : Bool) → pick x (noticedAlong (goes h c)) 0 ≡ noticed (pick x (newsAlong (goes h c)) [])
-    go true = noticed-along (goes h c)
-    go false = refl
-
-notices-same : (a : Air) (l : List (Valued StepResult)) (q : List Queued) (h : Held) (cs : List Call) → Books l q h → Tied a h → notices h cs ≡ noticed (heard a h cs)
-notices-same a l q h [] k t = refl
-notices-same a l q h (c ∷ cs) k t =
-    let s = same-call a l q h c k t in
-    let why = does h c .refusal in
-    let g = left (does h c) in
-    let x = notices-same (after a c why) _ _ g cs (books-call l q h c k) (s .tied) in
-    let y = noticed-by h c ∙ ap noticed (s .along) in
-    omega (arith, x, y, noticed-append (news a c why) (heard (after a c why) g cs))
+-- links
+links-append : (a b : List News) → linksCame (a ++ b) ≡ linksCame a + linksCame b
+links-append [] b = omega arith
+links-append (link-came handle ∷ a) b = omega (arith, links-append a b)
+links-append (link-went ∷ a) b = links-append a b
+links-append (att-heard p ∷ a) b = links-append a b
 
 -- ---- from a fresh state, with any store
 
@@ -124,7 +133,10 @@ module _ (store : List ℕ) (cs : List Call) where
   read-answered i p u e f = subst (λ (es : List Event). Answered es (getD (log (fresh store) cs) i noValued)) same-events (all store cs .reads i p u e f)
 
   pub notified-counted : run (fresh store) cs .state .counters .notified ≡ noticed (heard silence (fresh store) cs)
-  notified-counted = counted.notified-counted store cs ∙ notices-same silence [] [] (fresh store) cs (books-fresh store) unlinked
+  notified-counted = counted.notified-counted store cs ∙ counts-same noticed refl noticed-append silence [] [] (fresh store) cs (books-fresh store) unlinked
+
+  pub links-counted : run (fresh store) cs .state .counters .links ≡ linksCame (heard silence (fresh store) cs)
+  links-counted = counted.links-counted store cs ∙ counts-same linksCame refl links-append silence [] [] (fresh store) cs (books-fresh store) unlinked
 
   pub requests-in-turn : InTurn (taken (fresh store) cs) 0 (events silence (fresh store) cs)
   requests-in-turn = subst (λ (es : List Event). InTurn (taken (fresh store) cs) 0 es) same-events (in-turn store cs)

@@ -15,6 +15,8 @@ use Rattle.lists.proofs.BlockLaws.{drop-past, lowered-past, stored-room, stored
 use Rattle.time.specs.declared.Micros.{Micros}
 use Rattle.notifications.specs.Kept.{part, live}
 use Rattle.notifications.specs.declared.Notifications.{Notifications}
+use Rattle.notifications.specs.declared.Age.{Age}
+use Rattle.notifications.specs.declared.Wanted.{Wanted}
 use Rattle.gatt_services.specs.declared.Service.{Service}
 use Rattle.gatt_services.specs.declared.Which as service-which
 use Rattle.gatt_services.specs.declared.Which.the-variants as service-variants
@@ -42,17 +44,18 @@ use Rattle.script_rules.specs.declared.Alone.{Alone}
 use Rattle.script_rules.specs.declared.Alone.the-variants as alone
 use Rattle.script_rules.specs.declared.Awaited.{Awaited}
 use Rattle.script_rules.specs.declared.Awaited.the-variants as awaited-variants
-use Rattle.script_rules.specs.Wait.{waitPasses, passed, checkOne, awaited, checkFor, checkWait}
+use Rattle.script_rules.specs.Wait.{wanted, waitPasses, passedOn, passed, passing, checkOne, awaited, checkFor, checkWait}
 use Rattle.script_rules.specs.Start.{ends, waitsFor, unlinkedStep, startAlone, startUnlinked, forgotten, discoverIn, subscribeAt, subscribe, commanded, write, read, terminated, asksTo, disconnect, startLinked, start}
 use Rattle.thm_links.specs.Keeps.{keptNotifications, Keeps, startsQuietly}
 
 -- ---- what is left alone
 
--- what waits, the notifications, how many came, and every byte of the store from their part on
+-- what waits, the notifications, how many came, how many links there were, and every byte of the store from their part on
 pub record Hears (h g : Held) : Type 0 where
   pub queue : g .state .queue ≡ h .state .queue
   pub notifications : g .state .notifications ≡ h .state .notifications
   pub notified : g .state .counters .notified ≡ h .state .counters .notified
+  pub links : g .state .counters .links ≡ h .state .counters .links
   pub store : drop (notificationAt 0) (g .store) ≡ drop (notificationAt 0) (h .store)
 
 -- and both tables, and where a wait looks from
@@ -64,10 +67,16 @@ pub record Leaves (h g : Held) : Type 0 where
 
 pub hears-then : {h g i : Held} → Hears h g → Hears g i → Hears h i
 hears-then a b =
-    record { queue = b .queue ∙ a .queue; notifications = b .notifications ∙ a .notifications; notified = b .notified ∙ a .notified; store = b .store ∙ a .store }
+    record {
+      queue = b .queue ∙ a .queue;
+      notifications = b .notifications ∙ a .notifications;
+      notified = b .notified ∙ a .notified;
+      links = b .links ∙ a .links;
+      store = b .store ∙ a .store;
+    }
 
 pub leaves-none : (h : Held) → Leaves h h
-leaves-none h = record { hears = record { queue = refl; notifications = refl; notified = refl; store = refl }; services = refl; characteristics = refl; from = refl }
+leaves-none h = record { hears = record { queue = refl; notifications = refl; notified = refl; links = refl; store = refl }; services = refl; characteristics = refl; from = refl }
 
 pub leaves-then : {h g i : Held} → Leaves h g → Leaves g i → Leaves h i
 leaves-then a b =
@@ -83,7 +92,7 @@ pub still : {h : Held} {c : Central} → c .queue ≡ h .state .queue → c .not
     → c .characteristics ≡ h .state .characteristics → Leaves h (onState h c)
 still q n k s x =
     record {
-      hears = record { queue = q; notifications = n; notified = ap (λ (y : Counters). y .notified) k; store = refl };
+      hears = record { queue = q; notifications = n; notified = ap (λ (y : Counters). y .notified) k; links = ap (λ (y : Counters). y .links) k; store = refl };
       services = s;
       characteristics = x;
       from = ap (λ (y : Counters). y .«wait_from») k;
@@ -127,19 +136,22 @@ stored-beyond count from s = go (ltb count mostResults) refl
         ∙ drop-past (lowered resultPart s) (place resultPart 63) s from 0 (notificationAt 0) (omega arith)
         ∙ lowered-past resultPart s (notificationAt 0) (omega arith) (omega arith)
 
-pub leaves-ends : (h : Held) (at : Micros) (st : StepStatus) → Leaves h (ends h at st)
+leaves-finish : (h : Held) (at : Micros) (st : StepStatus) (heard : ℕ) → Leaves h (finish h at st heldAt 0 heard)
 unfolding finish ended
-leaves-ends h at st = go (h .state .running .active)
+leaves-finish h at st heard = go (h .state .running .active)
   where
-    go : (b : Bool) → Leaves h (pick b (ended h at st heldAt 0) h)
+    go : (b : Bool) → Leaves h (pick b (ended h at st heldAt 0 heard) h)
     go true =
         record {
-          hears = record { queue = refl; notifications = refl; notified = refl; store = stored-beyond (h .state .results .count) heldAt (h .store) };
+          hears = record { queue = refl; notifications = refl; notified = refl; links = refl; store = stored-beyond (h .state .results .count) heldAt (h .store) };
           services = refl;
           characteristics = refl;
           from = refl;
         }
     go false = leaves-none h
+
+pub leaves-ends : (h : Held) (at : Micros) (st : StepStatus) → Leaves h (ends h at st)
+leaves-ends h at st = leaves-finish h at st 0
 
 -- ---- discovery
 
@@ -174,25 +186,25 @@ leaves-characteristics w at svc from = go (ltb (svc .end) from || eqb from 0)
 
 -- ---- the wait check: where it passes, it sets where the next one looks from
 
-hears-one : (h : Held) (at : Micros) (x : Which) → Hears h (checkOne h at x)
+hears-passing : (h : Held) (at : Micros) (w : Wanted) → Hears h (passing h at w)
+hears-passing h at w =
+    let g = onState h (withCounters (h .state) (passed (h .state .counters))) in
+    let a : Hears h g = record { queue = refl; notifications = refl; notified = refl; links = refl; store = refl } in
+    hears-then a (leaves-finish g at Ok (passedOn (h .state) w (w .age)) .hears)
+
+hears-one : (h : Held) (at : Micros) (age : Age) (x : Which) → Hears h (checkOne h at age x)
 unfolding checkOne
-hears-one h at Nothing = leaves-ends h at _ .hears
-hears-one h at (At x) = go (waitPasses h (x .«value_handle»))
+hears-one h at age Nothing = leaves-ends h at _ .hears
+hears-one h at age (At x) = let w = wanted (h .state) at (x .«value_handle») age in go w (waitPasses h w)
   where
-    g : Held
-    g = onState h (withCounters (h .state) (passed (h .state .counters)))
-
-    a : Hears h g
-    a = record { queue = refl; notifications = refl; notified = refl; store = refl }
-
-    go : (b : Bool) → Hears h (pick b (ends g at Ok) h)
-    go true = hears-then a (leaves-ends g at Ok .hears)
-    go false = leaves-none h .hears
+    go : (w : Wanted) (b : Bool) → Hears h (pick b (passing h at w) h)
+    go w true = hears-passing h at w
+    go w false = leaves-none h .hears
 
 hears-for : (h : Held) (at : Micros) (x : Awaited) → Hears h (checkFor h at x)
 unfolding checkFor
 hears-for h at awaited-variants.Nothing = leaves-none h .hears
-hears-for h at (awaited-variants.On u) = hears-one h at _
+hears-for h at (awaited-variants.On u age) = hears-one h at age _
 
 hears-check : (h : Held) (at : Micros) → Hears h (checkWait h at)
 unfolding checkWait
@@ -271,7 +283,7 @@ begins-linked w at (Connect target interval latency timeout ms) = begins-quietly
 begins-linked w at (ExchangeMtu mtu) = begins-quietly (leaves-request w at _)
 begins-linked w at DiscoverServices =
     record {
-      hears = hears-then {g = onState (w .held) (forgotten (w .held .state))} (record { queue = refl; notifications = refl; notified = refl; store = refl })
+      hears = hears-then {g = onState (w .held) (forgotten (w .held .state))} (record { queue = refl; notifications = refl; notified = refl; links = refl; store = refl })
           (leaves-services (onHeld w (onState (w .held) (forgotten (w .held .state)))) at 1 .hears);
       quiet = λ e. absurd (false≢true e);
     }
@@ -279,9 +291,9 @@ begins-linked w at (DiscoverCharacteristics u) = begins-quietly (leaves-in w at 
 begins-linked w at (Subscribe u indicate) = begins-quietly (leaves-subscribe w at indicate _)
 begins-linked w at (Write u response) = begins-quietly (leaves-write w at response _)
 begins-linked w at (Read u) = begins-quietly (leaves-read w at _)
-begins-linked w at (WaitNotification u ms) =
+begins-linked w at (WaitNotification u ms age) =
     record {
-      hears = hears-then {g = waitsFor (w .held) at ms} (record { queue = refl; notifications = refl; notified = refl; store = refl }) (hears-check (waitsFor (w .held) at ms) at);
+      hears = hears-then {g = waitsFor (w .held) at ms} (record { queue = refl; notifications = refl; notified = refl; links = refl; store = refl }) (hears-check (waitsFor (w .held) at ms) at);
       quiet = λ e. absurd (false≢true e);
     }
 begins-linked w at (Wait ms) = begins-quietly (still refl refl refl refl refl)

@@ -20,16 +20,17 @@ use Rattle.state.specs.Central.{withBearer}
 use Rattle.state.specs.declared.Queue.{Queue}
 use Rattle.state.specs.declared.Queued.{Queued}
 use Rattle.state.specs.declared.StepStatus.the-variants.{Ok}
-use Rattle.state_rules.proofs.GateLaws.{passed, passed-quiet}
+use Rattle.state_rules.proofs.GateLaws.{passed-quiet}
 use Rattle.script_rules.specs.World.{Held, World, onHeld, onState}
 use Rattle.script_rules.specs.Waiting.{waiting, takeStep}
 use Rattle.script_rules.specs.Start.{ends, start, unlinkedStep}
 use Rattle.script_rules.specs.Script.{canGo, stepOnce, advances, advance}
 use Rattle.script_rules.specs.Unlinked.{stepUnlinked, advancesUnlinked, advanceUnlinked}
 use Rattle.script_rules.proofs.AdvanceLaws.{goes-on}
+use Rattle.script_rules.proofs.CallBeginLaws.{passed-connected}
 use Rattle.script_rules.proofs.UnlinkedLaws.{present-finish, advance-unlinked}
 use Rattle.script_rules.specs.Outcome.{done, refused, quietly, quietlyRefused, begins}
-use Rattle.script_rules.specs.Events.{linked, unlinked, isConnect, greeted, connect, onConnected, goesOn, cutStatus, cutOff, silent, lose, onDisconnected}
+use Rattle.script_rules.specs.Events.{withNewLink, unlinked, isConnect, greeted, connect, onConnected, goesOn, cutStatus, cutOff, silent, lose, onDisconnected}
 use Rattle.thm_trail.specs.Calls.{connected, disconnected, ofQuiet, does, left, gateOf, done?}
 use Rattle.thm_links.specs.Keeps.{keptNotifications, Keeps, startsQuietly, KeepsButStarts}
 use Rattle.thm_links.proofs.Leaves.{Leaves, leaves-none, leaves-then, still, kept-from, keeps, leaves-ends, leaves-alone, Begins, begins-start}
@@ -40,19 +41,21 @@ use Rattle.thm_links.proofs.Leaves.{Leaves, leaves-none, leaves-then, s
 record Goes (a : Bool) (h g : Held) : Type 0 where
   notifications : g .state .notifications ≡ h .state .notifications
   notified : g .state .counters .notified ≡ h .state .counters .notified
+  links : g .state .counters .links ≡ h .state .counters .links
   store : drop (notificationAt 0) (g .store) ≡ drop (notificationAt 0) (h .store)
   services : a ≡ true → g .state .services ≡ h .state .services
   characteristics : a ≡ true → g .state .characteristics ≡ h .state .characteristics
   from : a ≡ true → g .state .counters .«wait_from» ≡ h .state .counters .«wait_from»
 
 goes-none : (a : Bool) (h : Held) → Goes a h h
-goes-none a h = record { notifications = refl; notified = refl; store = refl; services = λ e. refl; characteristics = λ e. refl; from = λ e. refl }
+goes-none a h = record { notifications = refl; notified = refl; links = refl; store = refl; services = λ e. refl; characteristics = λ e. refl; from = λ e. refl }
 
 goes-leaves : (a : Bool) {h g : Held} → Leaves h g → Goes a h g
 goes-leaves a l =
     record {
       notifications = l .hears .notifications;
       notified = l .hears .notified;
+      links = l .hears .links;
       store = l .hears .store;
       services = λ e. l .services;
       characteristics = λ e. l .characteristics;
@@ -64,6 +67,7 @@ goes-then f x y =
     record {
       notifications = y .notifications ∙ x .notifications;
       notified = y .notified ∙ x .notified;
+      links = y .links ∙ x .links;
       store = y .store ∙ x .store;
       services = λ e. y .services (f e .1) ∙ x .services (f e .0);
       characteristics = λ e. y .characteristics (f e .1) ∙ x .characteristics (f e .0);
@@ -94,6 +98,7 @@ goes-take h few =
     record {
       notifications = refl;
       notified = refl;
+      links = refl;
       store =
           ap (drop (notificationAt 0)) (moved-down (h .store) runningAt (waitingAt 0) (valueSize * h .state .queue .count) (omega arith))
           ∙ drop-past (h .store) runningAt (h .store) (waitingAt 0) (valueSize * h .state .queue .count) (notificationAt 0) (omega (arith, few));
@@ -159,6 +164,7 @@ goes-advances (suc n) w at few = go (canGo (w .held .state)) refl (goes-advances
         record {
           notifications = b .hears .notifications;
           notified = b .hears .notified;
+          links = b .hears .links;
           store = b .hears .store;
           services = λ e. b .quiet e .services;
           characteristics = λ e. b .quiet e .characteristics;
@@ -211,20 +217,24 @@ goes-unlinked (suc n) h at few = go (canGo (h .state)) (goes-unlinked n g at few
 
 module _ (h : Held) (out : List ℕ) (handle : ℕ) (at : Micros) where
   abbrev met : Held
-  met = onState h (withBearer (h .state) (linked handle))
+  met = onState h (withNewLink (h .state) handle)
 
   abbrev before : World
   before = onHeld (begins (h .state) (h .store) out) (greeted met at)
 
-  leaves-met : Leaves h met
-  leaves-met = still refl refl refl refl refl
-
-  leaves-before : Leaves h (before .held)
-  leaves-before = leaves-then leaves-met (go (isConnect (h .state .running .step)))
+  leaves-greeted : Leaves met (before .held)
+  leaves-greeted = go (isConnect (h .state .running .step))
     where
       go : (b : Bool) → Leaves met (pick b (ends met at Ok) met)
       go true = leaves-ends met at Ok
       go false = leaves-none met
+
+  -- all but the link and the link count
+  keeps-met : Keeps h met
+  keeps-met = record { services = refl; characteristics = refl; notifications = refl; notified = refl; «wait_from» = refl }
+
+  keeps-before : Keeps h (before .held)
+  keeps-before = keeps-then keeps-met (keeps leaves-greeted)
 
   module _ (accepts : done? h (connected out handle at) ≡ true) where
     after : left (does h (connected out handle at)) ≡ advance before at .held
@@ -236,8 +246,8 @@ module _ (h : Held) (out : List ℕ) (handle : ℕ) (at : Micros) where
 
     few : before .held .state .queue .count ≤ mostSteps
     few =
-        subst (λ (q : Queue). q .count ≤ mostSteps) (sym (leaves-before .hears .queue))
-        (passed (h .state) (length (h .store)) (length out) at (eqb-true (gateOf h (connected out handle at)) 0 accepts) .fit .head .waiting)
+        subst (λ (q : Queue). q .count ≤ mostSteps) (sym (leaves-greeted .hears .queue))
+        (passed-connected (h .state) (length (h .store)) (length out) at (eqb-true (gateOf h (connected out handle at)) 0 accepts) .shared .fit .head .waiting)
 
     goes : Goes (allQuiet (before .held .state .queue)) (before .held) (advance before at .held)
     goes = goes-advance before at few
@@ -247,12 +257,13 @@ module _ (h : Held) (out : List ℕ) (handle : ℕ) (at : Micros) where
         subst (KeepsButStarts h at) (sym after)
         (record {
           before = before;
-          keeps = keeps leaves-before;
+          keeps = keeps-before;
           starts = refl;
-          notifications = goes-heard goes ∙ keeps leaves-before .notifications;
-          notified = goes .notified ∙ leaves-before .hears .notified;
-          quiet = λ e. keeps-then (keeps leaves-before) (goes-keeps (ap allQuiet (leaves-before .hears .queue) ∙ e) goes);
-          busy = λ e f. subst (λ (w : World). Keeps h (w .held)) (sym (busy-advance before at (runs-on e f))) (keeps leaves-before);
+          notifications = goes-heard goes ∙ keeps-before .notifications;
+          notified = goes .notified ∙ keeps-before .notified;
+          links = goes .links ∙ leaves-greeted .hears .links;
+          quiet = λ e. keeps-then keeps-before (goes-keeps (ap allQuiet (leaves-greeted .hears .queue) ∙ e) goes);
+          busy = λ e f. subst (λ (w : World). Keeps h (w .held)) (sym (busy-advance before at (runs-on e f))) keeps-before;
         })
       where
         runs-on : h .state .running .active ≡ true → isConnect (h .state .running .step) ≡ false → before .held .state .running .active ≡ true
@@ -284,7 +295,7 @@ module _ (h : Held) (at : Micros) where
     where
       go : (b : Bool) → pick b parted (ends parted at (cutStatus (parted .state .running .step))) .state .bearer .present ≡ false
       go true = refl
-      go false = present-finish parted at _ _ 0
+      go false = present-finish parted at _ _ 0 0
 
   keeps-lose : h .state .queue .count ≤ mostSteps → Keeps h (lose h at)
   unfolding lose advanceUnlinked

@@ -1,5 +1,6 @@
 -- What a new and a lost link keep (01, 'Rules of the link'): both tables, the notifications, `notified` and `wait_from`, but for what a step that
--- the call starts does to them by its own rule.
+-- the call starts does to them by its own rule. A new link is counted (02, One).
+use Prim.Native.Nat.{_+_}
 use mathlib.Core.Path.{_≡_}
 use mathlib.Core.Bool.{Bool, true, false}
 use mathlib.Core.List.{List}
@@ -37,7 +38,7 @@ startsQuietly (DiscoverCharacteristics service) = true
 startsQuietly (Subscribe characteristic indicate) = true
 startsQuietly (Write characteristic response) = true
 startsQuietly (Read characteristic) = true
-startsQuietly (WaitNotification characteristic ms) = false
+startsQuietly (WaitNotification characteristic ms age) = false
 startsQuietly (Wait ms) = true
 startsQuietly Disconnect = true
 startsQuietly (Capture enabled) = true
@@ -52,6 +53,8 @@ pub record KeepsButStarts (h : Held) (at : Micros) (g : Held) : Type 0 where
   -- no start touches the notifications, their bytes or their number
   pub notifications : keptNotifications g ≡ keptNotifications h
   pub notified : g .state .counters .notified ≡ h .state .counters .notified
+  -- the new link is counted, whatever starts
+  pub links : g .state .counters .links ≡ h .state .counters .links + 1
   -- all is kept where each waiting step starts quietly (so where none waits),
   pub quiet : all (λ q. startsQuietly (q .step)) (waiting (h .state .queue)) ≡ true → Keeps h g
   -- and where a step runs that a new link does not end

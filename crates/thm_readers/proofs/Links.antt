@@ -90,7 +90,7 @@ link-hop l q (ended w at st n) s b = gives-link (w .held) _ (gives-ends (w .held
 link-hop l q (began w at t g) s b =
     let u = onHeld w (takeStep (w .held)) in
     gives-link (u .held) (start u at .held) (gives-start u at (whole-take (w .held) (whole w s (b .sizes))))
-link-hop l q (meets w handle) s b = refl
+link-hop l q (meets w handle few) s b = refl
 link-hop l q (parts w) s b = refl
 link-hop l q (still w g t) s b = same-link (g .state .bearer) (w .held .state .bearer) (t .present) (ap (λ k. k .handle) (t .link))
 link-hop l q (acted w at channel n o t) s b =

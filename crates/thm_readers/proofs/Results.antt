@@ -26,10 +26,14 @@ use Rattle.state_readers.specs.declared.Handle.{Handle}
 use Rattle.state_readers.specs.declared.Handle.the-variants as handle-variants
 use Rattle.state_readers.specs.declared.Given.{Given}
 use Rattle.state_readers.specs.declared.Given.the-variants as given-variants
-use Rattle.state_readers.specs.Readers.{timerOf, timer, handle, given, result, timerRefusal, handleRefusal, givenRefusal}
+use Rattle.state_readers.specs.declared.Passed.{Passed}
+use Rattle.state_readers.specs.declared.Passed.the-variants as passed-variants
+use Rattle.state_readers.specs.Readers.{timerOf, timer, handle, given, result, timerRefusal, handleRefusal, givenRefusal, passedRefusal}
+use Rattle.state_readers.specs.Readers as readers
 use Rattle.state_readers.proofs.ReaderLaws.{timer-refusal, handle-refusal, result-refusal}
-use Rattle.state_readers.specs.Numbers.{eight, timerWords, handleWords, givenWords}
-use Rattle.thm_trail.specs.Calls.{Reader, timerUs, connectedHandle, resultOf, reads, does}
+use Rattle.state_readers.proofs.PassedLaws.{passed-refusal}
+use Rattle.state_readers.specs.Numbers.{eight, timerWords, handleWords, givenWords, passedWords}
+use Rattle.thm_trail.specs.Calls.{Reader, timerUs, connectedHandle, resultOf, passedOn, reads, does}
 use Rattle.thm_trail.specs.Log.{keptResults, noValued}
 use Rattle.thm_accounting.proofs.Numbered.{Numbered, numbered-rest}
 use Rattle.thm_readers.specs.Said.{said, nothing, deadlineOf, Shows, SaysResults}
@@ -196,3 +200,9 @@ reader-refusal h (resultOf i) = go (result (h .state) (length (h .store)) i) ∙
     go (given-variants.Refused why) = refl
     go given-variants.Nothing = refl
     go (given-variants.Is at status place len) = refl
+reader-refusal h (passedOn i) = go (readers.passedOn (h .state) (length (h .store)) i) ∙ passed-refusal (h .state) (length (h .store)) i
+  where
+    go : (x : Passed) → getD (passedWords x) 0 0 ≡ passedRefusal x
+    go (passed-variants.Refused why) = refl
+    go passed-variants.Nothing = refl
+    go (passed-variants.Is at link handle indication place len) = refl

@@ -50,7 +50,7 @@ module _ (l : List (Valued StepResult)) (q : List Queued) (h : Held) (out : List
   v = onHeld w (ends h at st)
 
   abbrev x : Valued StepResult
-  x = record { entry = record { index = h .state .running .index; at = at; status = st; len = 0 }; value = bytes (h .store) heldAt 0 }
+  x = record { entry = record { index = h .state .running .index; at = at; status = st; len = 0; heard = 0 }; value = bytes (h .store) heldAt 0 }
 
   whole : Whole h
   whole =
@@ -73,7 +73,7 @@ module _ (l : List (Valued StepResult)) (q : List Queued) (h : Held) (out : List
   given-first e =
       let r = h .state .running in
       let a : r .active ≡ true = both (r .active) (r .dated && leb (r .deadline .0) (at .0)) e .0 in
-      let one : gave h (ends h at st) ≡ x ∷ [] = gave-pushed l q h (ends h at st) x b (b .number a) (finish-pushes h at st heldAt 0 whole (omega arith) (omega arith) a) in
+      let one : gave h (ends h at st) ≡ x ∷ [] = gave-pushed l q h (ends h at st) x b (b .number a) (finish-pushes h at st heldAt 0 0 whole (omega arith) (omega arith) a) in
       ap (λ (c : Bool). pick c (givenIn w (goes h (timer out at))) []) accepts
       ∙ ap (λ (c : Bool). givenIn w (pick c (thenOnward v at) [])) e
       ∙ ap (λ (t : List (Valued StepResult)). t ++ givenIn v (onward v at)) one

@@ -16,8 +16,10 @@ use Rattle.script_rules.specs.World.{Held}
 use Rattle.state_readers.specs.declared.Handle.{Handle}
 use Rattle.state_readers.specs.declared.Handle.the-variants.{Absent, Is}
 use Rattle.state_readers.specs.Readers.{timer, handle, result}
-use Rattle.state_readers.specs.Numbers.{eight, timerWords, handleWords, statusNumber, statusCode, givenWords}
-use Rattle.thm_trail.specs.Calls.{Reader, timerUs, connectedHandle, resultOf, Call, batch, timer as timer-call, connected, disconnected, advertising, scanResponse, fragment, reads, does, left}
+use Rattle.state_readers.specs.Readers as readers
+use Rattle.state_readers.specs.Numbers.{eight, timerWords, handleWords, statusNumber, statusCode, givenWords, passedWords}
+use Rattle.thm_trail.specs.Calls.{Reader, timerUs, connectedHandle, resultOf, passedOn}
+use Rattle.thm_trail.specs.Calls.{Call, batch, timer as timer-call, connected, disconnected, advertising, scanResponse, fragment, reads, does, left}
 use Rattle.thm_trail.specs.Log.{noValued, givenBy}
 
 -- a reader's answer: its refusal, 1 if there is what was asked for, its values
@@ -25,6 +27,7 @@ abbrev pub said : Held → Reader → List ℕ
 said h timerUs = timerWords (timer (h .state) (length (h .store)))
 said h connectedHandle = handleWords (handle (h .state) (length (h .store)))
 said h (resultOf i) = givenWords (result (h .state) (length (h .store)) i)
+said h (passedOn i) = passedWords (readers.passedOn (h .state) (length (h .store)) i)
 
 -- there is not what was asked for
 abbrev pub nothing : List ℕ

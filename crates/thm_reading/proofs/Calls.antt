@@ -1,5 +1,5 @@
 -- The calls of the script and of the link, and the readers, are blind to dead places.
-use Prim.Native.Nat.{ℕ}
+use Prim.Native.Nat.{ℕ, _-_}
 use mathlib.Core.Path.{_≡_, sym, ap, _∙_}
 use mathlib.Core.Bool.{Bool, true, not, _&&_}
 use mathlib.Core.List.{List}
@@ -10,7 +10,7 @@ use Rattle.state_places.specs.Sizes.{storeSize, outputSize}
 use Rattle.time.specs.declared.Micros.{Micros}
 use Rattle.time.specs.Clock.{tooLate}
 use Rattle.state.specs.Central.{Central}
-use Rattle.state_rules.specs.Fit.{mostNotified}
+use Rattle.state_rules.specs.Fit.{mostNotified, mostLinks}
 use Rattle.state_rules.specs.Gate.{firstRefusal, gate, gateQuiet, gateReader, unless}
 use Rattle.state_rules.specs.Refusals.{accepted, badBatch, counterFull, longFrame}
 use Rattle.script_rules.specs.World.{Held, World, onHeld}
@@ -20,13 +20,14 @@ use Rattle.script_rules.specs.Waiting.{pushAll}
 use Rattle.script_rules.specs.Script.{advance}
 use Rattle.script_rules.specs.Outcome.{Outcome, Quiet, unsent, begins, done, refused, quietly, quietlyRefused}
 use Rattle.script_rules.specs.Batch.{batchFits, countersFit, gateBatch, pushSteps}
-use Rattle.script_rules.specs.Events.{expire, connect, lose, onTimer, onConnected, onDisconnected}
+use Rattle.script_rules.specs.Events.{expire, connect, lose, onTimer, gateConnected, onConnected, onDisconnected}
 use Rattle.link_rules.specs.Fragment.{withHeld, heldFits, gateFragment, refusing}
 use Rattle.link_rules.specs.Link.{hear, onFragment}
-use Rattle.state_readers.specs.Readers.{timerOf, timer, handleOf, handle, given, result}
+use Rattle.state_readers.specs.Readers.{timerOf, timer, handleOf, handle, given, result, heardBy, named, passedOn}
 use Rattle.state_readers.specs.declared.Timer.the-variants as timer-variants
 use Rattle.state_readers.specs.declared.Handle.the-variants as handle-variants
 use Rattle.state_readers.specs.declared.Given.the-variants as given-variants
+use Rattle.state_readers.specs.declared.Passed.the-variants as passed-variants
 use Rattle.thm_reading.specs.Live.{live}
 use Rattle.thm_reading.proofs.Tables.{cut-twice, live-twice}
 use Rattle.thm_reading.proofs.Blind.{cut, cutWorld, pick-if, pick-both}
@@ -72,6 +73,10 @@ gate-fragment-blind c store out at start n =
     g)
     (gate-blind c store out at)
 
+gate-connected-blind : (c : Central) (store out : ℕ) (at : Micros) → gateConnected c store out at ≡ gateConnected (live c) store out at
+gate-connected-blind c store out at =
+    ap (λ (g : ℕ). pick (eqb g accepted) (pick (eqb (c .counters .links) mostLinks) counterFull accepted) g) (gate-blind c store out at)
+
 -- ---- a call that is refused with g leaves r; otherwise it does its work on w
 
 module _ (store out : List ℕ) where
@@ -109,9 +114,9 @@ module _ (store out : List ℕ) where
   unfolding onConnected
   on-connected-blind c handle at =
       let w : World = begins c store out in
-      gated (gate c (length store) (length out) at) (gate (live c) (length store) (length out) at)
+      gated (gateConnected c (length store) (length out) at) (gateConnected (live c) (length store) (length out) at)
       (connect w handle at) (connect (cutWorld w) handle at) c (live c)
-      (gate-blind c (length store) (length out) at) (connect-blind at w handle) (sym (live-twice c))
+      (gate-connected-blind c (length store) (length out) at) (connect-blind at w handle) (sym (live-twice c))
 
   pub on-fragment-blind : (c : Central) (at : Micros) (start : Bool) (fragment : List ℕ)
       → liveOutcome (onFragment c store out at start fragment) ≡ liveOutcome (onFragment (live c) store out at start fragment)
@@ -153,3 +158,10 @@ pub result-blind : (c : Central) (store index : ℕ) → result c store index �
 unfolding result
 result-blind c store index = λ i.
     unless (gate-reader-blind c store i) given-variants.Refused (given index 0 (sym (cut-twice (c .results .count) (c .results .kept)) i))
+
+pub passed-blind : (c : Central) (store index : ℕ) → passedOn c store index ≡ passedOn (live c) store index
+unfolding passedOn
+passed-blind c store index = λ i.
+    unless (gate-reader-blind c store i) passed-variants.Refused
+    (named (c .counters .notified - c .notifications .count) (sym (cut-twice (c .notifications .count) (c .notifications .kept)) i)
+    (heardBy index (sym (cut-twice (c .results .count) (c .results .kept)) i)))

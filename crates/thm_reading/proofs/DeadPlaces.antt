@@ -12,7 +12,7 @@ use Rattle.thm_reading.specs.Same.{SameOutcome, SameQuiet, SameHeard}
 use Rattle.thm_reading.specs.Dead.{DeadPlacesNeverMatter}
 use Rattle.thm_reading.proofs.Blind.{via}
 use Rattle.thm_reading.proofs.Calls.{liveOutcome, liveQuiet, push-steps-blind, on-timer-blind, on-connected-blind, on-disconnected-blind, on-fragment-blind, timer-blind}
-use Rattle.thm_reading.proofs.Calls.{handle-blind, result-blind}
+use Rattle.thm_reading.proofs.Calls.{handle-blind, result-blind, passed-blind}
 use Rattle.thm_reading.proofs.Radio.{liveHeard, advertised-alike, responded-blind}
 
 -- ---- part by part
@@ -63,4 +63,5 @@ dead-places c d p q e =
       timer = λ store. via live (λ x. x) (λ x. readers.timer x store) (λ x. timer-blind x store) c d e;
       handle = λ store. via live (λ x. x) (λ x. readers.handle x store) (λ x. handle-blind x store) c d e;
       result = λ store index. via live (λ x. x) (λ x. readers.result x store index) (λ x. result-blind x store index) c d e;
+      passedOn = λ store index. via live (λ x. x) (λ x. readers.passedOn x store index) (λ x. passed-blind x store index) c d e;
     }

@@ -2,11 +2,11 @@
 use mathlib.Core.Path.{_≡_, sym}
 use mathlib.Core.Bool.{_&&_}
 use Rattle.state_places.specs.Sizes.{dataSize}
-use Rattle.notifications.specs.Kept.{valuesFit}
+use Rattle.notifications.specs.Kept.{valuesFit, linksFit}
 use Rattle.gatt_characteristics.specs.Characteristic.{rises}
 use Rattle.state.specs.Central.{Central}
 use Rattle.state_rules.specs.Fit.{noResponse, counted, countsFit, heldFits, resultsFit, lengthsFit, mtuFits, runningFits, stepsFit, phaseFits, pendingFits, idleFits, notifiedFits}
-use Rattle.state_rules.specs.Fit.{waitFits, refusedFits, indexFits, deadlineFits, fits}
+use Rattle.state_rules.specs.Fit.{waitFits, refusedFits, indexFits, deadlineFits, linkCountFits, fits}
 use Rattle.thm_reading.specs.Live.{live}
 use Rattle.thm_reading.proofs.Tables.{cut-twice}
 
@@ -31,3 +31,5 @@ fits-blind c = λ i.
     && refusedFits (c .counters)
     && indexFits (c .counters) (c .queue .count)
     && deadlineFits (c .running)
+    && linkCountFits (c .counters)
+    && linksFit (c .counters .links) (sym (cut-twice (c .notifications .count) (c .notifications .kept)) i)

@@ -26,7 +26,7 @@ module _ (at : Micros) where
       record {
         state = withCounters
             (withNotifications (sym (live-twice c) i)
-            (notifications-keep (c .notifications) (record { at = at; handle = handle; len = n; indication = indication }) i))
+            (notifications-keep (c .notifications) (record { at = at; handle = handle; len = n; indication = indication; link = c .counters .links }) i))
             (noted (c .counters));
         store = keptValue (h .store) (c .notifications .count) (payloadAt + 3) n;
       }

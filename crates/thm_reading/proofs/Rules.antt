@@ -77,7 +77,7 @@ module _ (at : Micros) where
       (over w at Ok) w (over (cutWorld w) at Ok) (cutWorld w) (over-blind at w Ok) (world-twice w)
   present-blind w n asked-variants.Value =
       pick-both cutWorld (eqb (getD (payload (w .held) n) 0 0) opReadRsp)
-      (valueRead w at n) w (valueRead (cutWorld w) at n) (cutWorld w) (finish-world w at Ok (payloadAt + 1) (n - 1)) (world-twice w)
+      (valueRead w at n) w (valueRead (cutWorld w) at n) (cutWorld w) (finish-world w at Ok (payloadAt + 1) (n - 1) 0) (world-twice w)
   present-blind w n asked-variants.Nothing = world-twice w
 
   taken-blind : (w : World) (n : ℕ) → cutWorld (taken w at n) ≡ cutWorld (taken (cutWorld w) at n)

@@ -7,14 +7,14 @@ use Rattle.state.specs.Central.{withBearer}
 use Rattle.state.specs.declared.Step.{Step}
 use Rattle.state.specs.declared.StepStatus.the-variants.{Ok}
 use Rattle.state_kinds.specs.Kinds.{isConnect}
-use Rattle.script_rules.specs.Bearers.{linked, unlinked}
+use Rattle.script_rules.specs.Bearers.{unlinked}
 use Rattle.script_rules.specs.Timeouts.{timedOut, due}
 use Rattle.script_rules.specs.World.{Held, World, onHeld, onState}
 use Rattle.script_rules.specs.Waiting.{takeStep}
 use Rattle.script_rules.specs.Start.{ends, start}
 use Rattle.script_rules.specs.Script.{canGo, stepOnce, advances, advance}
 use Rattle.script_rules.proofs.AdvanceLaws.{goes-on}
-use Rattle.script_rules.specs.Comings.{expire, greeted, connect, goesOn, cutStatus, cutOff, silent, lose}
+use Rattle.script_rules.specs.Comings.{expire, greeted, withNewLink, connect, goesOn, cutStatus, cutOff, silent, lose}
 use Rattle.thm_reading.proofs.Blind.{cut, cutWorld, held-twice, world-twice, pick-if, pick-both}
 use Rattle.thm_reading.proofs.Turns.{finish-blind, finish-world}
 use Rattle.thm_reading.proofs.Queue.{take-blind}
@@ -62,19 +62,19 @@ module _ (at : Micros) where
       let r = w .held .state .running in
       let stops : World → World = λ v. onHeld v (ends (v .held) at (timedOut (r .step))) in
       pick-both cutWorld (due r at) (advance (stops w) at) w (advance (stops (cutWorld w)) at) (cutWorld w)
-      (then-advance (stops w) (stops (cutWorld w)) (finish-world w at (timedOut (r .step)) heldAt 0))
+      (then-advance (stops w) (stops (cutWorld w)) (finish-world w at (timedOut (r .step)) heldAt 0 0))
       (world-twice w)
 
   -- ---- a link comes
 
   greet-blind : (h : Held) → cut (greeted h at) ≡ cut (greeted (cut h) at)
   greet-blind h =
-      pick-both cut (isConnect (h .state .running .step)) (ends h at Ok) h (ends (cut h) at Ok) (cut h) (finish-blind h at Ok heldAt 0) (held-twice h)
+      pick-both cut (isConnect (h .state .running .step)) (ends h at Ok) h (ends (cut h) at Ok) (cut h) (finish-blind h at Ok heldAt 0 0) (held-twice h)
 
   pub connect-blind : (w : World) (handle : ℕ) → cutWorld (connect w handle at) ≡ cutWorld (connect (cutWorld w) handle at)
   unfolding connect
   connect-blind w handle =
-      let meets : Held → Held = λ h. onState h (withBearer (h .state) (linked handle)) in
+      let meets : Held → Held = λ h. onState h (withNewLink (h .state) handle) in
       let greets : World → World = λ v. onHeld v (greeted (meets (v .held)) at) in
       then-advance (greets w) (greets (cutWorld w)) (λ i. record { held = greet-blind (meets (w .held)) i; told = w .told })
 
@@ -83,7 +83,7 @@ module _ (at : Micros) where
   cut-off-blind : (h : Held) (s : Step) → cut (cutOff h at s) ≡ cut (cutOff (cut h) at s)
   unfolding cutOff
   cut-off-blind h s =
-      pick-both cut (goesOn s) h (ends h at (cutStatus s)) (cut h) (ends (cut h) at (cutStatus s)) (held-twice h) (finish-blind h at (cutStatus s) heldAt 0)
+      pick-both cut (goesOn s) h (ends h at (cutStatus s)) (cut h) (ends (cut h) at (cutStatus s)) (held-twice h) (finish-blind h at (cutStatus s) heldAt 0 0)
 
   pub lose-blind : (h : Held) → cut (lose h at) ≡ cut (lose (cut h) at)
   unfolding lose

@@ -1,6 +1,6 @@
 -- The wait check, discovery's requests and what a step does when it begins are blind to dead places.
-use Prim.Native.Nat.{ℕ, _+_, max}
-use mathlib.Core.Path.{_≡_, sym, ap, _∙_}
+use Prim.Native.Nat.{ℕ, _+_, _-_, max}
+use mathlib.Core.Path.{_≡_, refl, sym, ap, _∙_}
 use mathlib.Core.Bool.{Bool, _||_}
 use mathlib.Core.List.{List, []}
 use lib.ListN.{drop}
@@ -29,8 +29,11 @@ use Rattle.gatt_descriptors.specs.declared.Range.{Range}
 use Rattle.gatt_descriptors.specs.declared.Range.the-variants as range
 use Rattle.gatt_descriptors.specs.Range.{declaredIn, firstRange, descriptorRange}
 use Rattle.notifications.specs.declared.Notification.{Notification}
-use Rattle.notifications.specs.Kept.{heard, skippedOf}
-use Rattle.notifications.specs.Wait.{passes}
+use Rattle.notifications.specs.declared.Wanted.{Wanted}
+use Rattle.notifications.specs.declared.Age.{Age}
+use Rattle.notifications.specs.declared.Age.the-variants.{Any, Within}
+use Rattle.notifications.specs.Kept.{heard}
+use Rattle.notifications.specs.Wait.{passes, newestCounted}
 use Rattle.state.specs.Central.{Central, withCounters, withBearer, withServices, withCharacteristics}
 use Rattle.state.specs.declared.Step.{Step}
 use Rattle.state.specs.declared.Step.the-variants.{Scan, Connect, ExchangeMtu, DiscoverServices, DiscoverCharacteristics, Subscribe, Write, Read, WaitNotification, Wait}
@@ -45,7 +48,7 @@ use Rattle.script_rules.specs.declared.Alone.{Alone}
 use Rattle.script_rules.specs.declared.Alone.the-variants as alone
 use Rattle.script_rules.specs.declared.Awaited.{Awaited}
 use Rattle.script_rules.specs.declared.Awaited.the-variants as awaited-variants
-use Rattle.script_rules.specs.Wait.{waitPasses, passed, checkOne, awaited, checkFor, checkWait}
+use Rattle.script_rules.specs.Wait.{wanted, skipped, waitPasses, passedOn, passed, passing, checkOne, awaited, checkFor, checkWait}
 use Rattle.script_rules.specs.Start.{ends, waitsFor, unlinkedStep, startAlone, startUnlinked, forgotten, discoverIn, configuration, subscribeAt, subscribe, commanded, write, read}
 use Rattle.script_rules.specs.Start.{terminated, asksTo, disconnect, named, startLinked, start}
 use Rattle.thm_reading.specs.Live.{live}
@@ -73,37 +76,43 @@ by-range f c start end from =
 
 -- ---- the wait check
 
-module _ (at : Micros) where
-  check-one-blind : (h : Held) (x : Which) → cut (checkOne h at x) ≡ cut (checkOne (cut h) at x)
-  unfolding checkOne
-  check-one-blind h Nothing = finish-blind h at NotFound heldAt 0
-  check-one-blind h (At x) =
-      pick-if cut (waitPasses h (x .«value_handle»)) (waitPasses (cut h) (x .«value_handle»))
-      (finish (past h) at Ok heldAt 0) h
-      (finish (past (cut h)) at Ok heldAt 0) (cut h)
-      same
-      (λ e. finish-blind (past h) at Ok heldAt 0)
-      (held-twice h)
-    where
-      past : Held → Held
-      past g = onState g (withCounters (g .state) (passed (g .state .counters)))
+-- what an aged wait passes on
+passed-on-blind : (c : Central) (w : Wanted) (age : Age) → passedOn c w age ≡ passedOn (live c) w age
+passed-on-blind c w Any = refl
+passed-on-blind c w (Within age) =
+    ap (λ (l : List Notification). newestCounted w (c .counters .notified - c .notifications .count + skipped c) 0 (drop (skipped c) l))
+    (sym (cut-twice (c .notifications .count) (c .notifications .kept)))
 
+module _ (at : Micros) where
+  passing-blind : (h : Held) (w : Wanted) → cut (passing h at w) ≡ cut (passing (cut h) at w)
+  passing-blind h w =
+      let past : Held → Held = λ g. onState g (withCounters (g .state) (passed (g .state .counters))) in
+      finish-blind (past h) at Ok heldAt 0 (passedOn (h .state) w (w .age))
+      ∙ ap (λ (n : ℕ). cut (finish (past (cut h)) at Ok heldAt 0 n)) (passed-on-blind (h .state) w (w .age))
+
+  check-one-blind : (h : Held) (age : Age) (x : Which) → cut (checkOne h at age x) ≡ cut (checkOne (cut h) at age x)
+  unfolding checkOne
+  check-one-blind h age Nothing = finish-blind h at NotFound heldAt 0 0
+  check-one-blind h age (At x) =
+      pick-if cut (waitPasses h w) (waitPasses (cut h) w) (passing h at w) h (passing (cut h) at w) (cut h) same (λ e. passing-blind h w) (held-twice h)
+    where
       c : Central
       c = h .state
 
-      same : waitPasses h (x .«value_handle») ≡ waitPasses (cut h) (x .«value_handle»)
+      w : Wanted
+      w = wanted c at (x .«value_handle») age
+
+      same : waitPasses h w ≡ waitPasses (cut h) w
       same =
-          ap (λ (l : List Notification). passes (x .«value_handle»)
-          (drop (skippedOf (c .counters .notified) (c .notifications .count) (c .counters .«wait_from»)) (heard (h .store) l))
-          (bytes (h .store) runningAt (c .running .len)))
+          ap (λ (l : List Notification). passes w (drop (skipped c) (heard (h .store) l)) (bytes (h .store) runningAt (c .running .len)))
           (sym (cut-twice (c .notifications .count) (c .notifications .kept)))
 
   check-for-blind : (h : Held) (a : Awaited) → cut (checkFor h at a) ≡ cut (checkFor (cut h) at a)
   unfolding checkFor
   check-for-blind h awaited-variants.Nothing = held-twice h
-  check-for-blind h (awaited-variants.On u) =
-      check-one-blind h (characteristic.characteristicWith u (characteristic.known (h .state .characteristics)))
-      ∙ by-characteristic (λ x. cut (checkOne (cut h) at x)) (h .state) u
+  check-for-blind h (awaited-variants.On u age) =
+      check-one-blind h age (characteristic.characteristicWith u (characteristic.known (h .state .characteristics)))
+      ∙ by-characteristic (λ x. cut (checkOne (cut h) at age x)) (h .state) u
 
   pub check-blind : (h : Held) → cut (checkWait h at) ≡ cut (checkWait (cut h) at)
   unfolding checkWait
@@ -123,7 +132,7 @@ module _ (at : Micros) where
 
   ask-range-blind : (w : World) (r : Range) → cutWorld (askRange w at r) ≡ cutWorld (askRange (cutWorld w) at r)
   unfolding askRange
-  ask-range-blind w range.Nothing = finish-world w at Ok heldAt 0
+  ask-range-blind w range.Nothing = finish-world w at Ok heldAt 0 0
   ask-range-blind w (range.Is start end) = request-blind (asking w 2 start) at (findInformationReq start end)
 
   pub discover-descriptors-blind : (w : World) (svc : Service) (from : ℕ)
@@ -151,8 +160,8 @@ module _ (at : Micros) where
   start-alone-blind : (h : Held) (a : Alone) → cut (startAlone h at a) ≡ cut (startAlone (cut h) at a)
   unfolding startAlone
   start-alone-blind h (alone.Runs ms) = waits-blind h at ms
-  start-alone-blind h alone.Done = finish-blind h at Ok heldAt 0
-  start-alone-blind h alone.NeedsLink = finish-blind h at NotConnected heldAt 0
+  start-alone-blind h alone.Done = finish-blind h at Ok heldAt 0 0
+  start-alone-blind h alone.NeedsLink = finish-blind h at NotConnected heldAt 0 0
 
   pub start-unlinked-blind : (h : Held) (s : Step) → cut (startUnlinked h at s) ≡ cut (startUnlinked (cut h) at s)
   start-unlinked-blind h s = start-alone-blind h (unlinkedStep s)
@@ -187,21 +196,21 @@ module _ (at : Micros) where
 
   subscribe-at-blind : (w : World) (indicate : Bool) (x : Cccd) → cutWorld (subscribeAt w at indicate x) ≡ cutWorld (subscribeAt (cutWorld w) at indicate x)
   unfolding subscribeAt
-  subscribe-at-blind w indicate cccd.Unknown = finish-world w at NotFound heldAt 0
+  subscribe-at-blind w indicate cccd.Unknown = finish-world w at NotFound heldAt 0 0
   subscribe-at-blind w indicate (cccd.At handle) = request-blind w at (writeReq handle (configuration indicate))
 
   subscribe-blind : (w : World) (indicate : Bool) (x : Which) → cutWorld (subscribe w at indicate x) ≡ cutWorld (subscribe (cutWorld w) at indicate x)
   unfolding subscribe
-  subscribe-blind w indicate Nothing = finish-world w at NotFound heldAt 0
+  subscribe-blind w indicate Nothing = finish-world w at NotFound heldAt 0 0
   subscribe-blind w indicate (At x) = subscribe-at-blind w indicate (x .cccd)
 
   command-blind : (w : World) (handle n : ℕ) → cutWorld (commanded w at handle n) ≡ cutWorld (commanded (cutWorld w) at handle n)
   command-blind w handle n = λ i.
-      record { held = finish-blind (w .held) at Ok heldAt 0 i; told = send (w .told) cidAtt (attPdu opWriteCmd handle (w .held .store) runningAt n) }
+      record { held = finish-blind (w .held) at Ok heldAt 0 0 i; told = send (w .told) cidAtt (attPdu opWriteCmd handle (w .held .store) runningAt n) }
 
   write-blind : (w : World) (response : Bool) (x : Which) → cutWorld (write w at response x) ≡ cutWorld (write (cutWorld w) at response x)
   unfolding write
-  write-blind w response Nothing = finish-world w at NotFound heldAt 0
+  write-blind w response Nothing = finish-world w at NotFound heldAt 0 0
   write-blind w response (At x) =
       let n : ℕ = w .held .state .running .len in
       let long : World → World = λ v. onHeld v (ends (v .held) at TooLong) in
@@ -210,14 +219,14 @@ module _ (at : Micros) where
       pick-both cutWorld (ltb (w .held .state .bearer .link .mtu) (n + 3))
       (long w) (pick response (asks w) (tells w))
       (long (cutWorld w)) (pick response (asks (cutWorld w)) (tells (cutWorld w)))
-      (finish-world w at TooLong heldAt 0)
+      (finish-world w at TooLong heldAt 0 0)
       (pick-both cutWorld response (asks w) (tells w) (asks (cutWorld w)) (tells (cutWorld w))
       (request-blind w at (attPdu opWriteReq (x .«value_handle») (w .held .store) runningAt n))
       (command-blind w (x .«value_handle») n))
 
   read-blind : (w : World) (x : Which) → cutWorld (read w at x) ≡ cutWorld (read (cutWorld w) at x)
   unfolding read
-  read-blind w Nothing = finish-world w at NotFound heldAt 0
+  read-blind w Nothing = finish-world w at NotFound heldAt 0 0
   read-blind w (At x) = request-blind w at (readReq (x .«value_handle»))
 
   disconnect-blind : (w : World) → cutWorld (disconnect w) ≡ cutWorld (disconnect (cutWorld w))
@@ -237,7 +246,7 @@ module _ (at : Micros) where
   start-linked-blind : (w : World) (s : Step) → cutWorld (startLinked w at s) ≡ cutWorld (startLinked (cutWorld w) at s)
   unfolding startLinked
   start-linked-blind w (Scan ms) = held-wait-blind w ms
-  start-linked-blind w (Connect target interval latency timeout ms) = finish-world w at Ok heldAt 0
+  start-linked-blind w (Connect target interval latency timeout ms) = finish-world w at Ok heldAt 0 0
   start-linked-blind w (ExchangeMtu mtu) = request-blind w at (exchangeMtuReq (max mtu defaultMtu))
   start-linked-blind w DiscoverServices = forget-blind w
   start-linked-blind w (DiscoverCharacteristics u) =
@@ -248,11 +257,11 @@ module _ (at : Micros) where
   start-linked-blind w (Write u response) =
       write-blind w response (named w u) ∙ by-characteristic (λ x. cutWorld (write (cutWorld w) at response x)) (w .held .state) u
   start-linked-blind w (Read u) = read-blind w (named w u) ∙ by-characteristic (λ x. cutWorld (read (cutWorld w) at x)) (w .held .state) u
-  start-linked-blind w (WaitNotification u ms) = λ i. record { held = check-blind at (waitsFor (w .held) at ms) i; told = w .told }
+  start-linked-blind w (WaitNotification u ms age) = λ i. record { held = check-blind at (waitsFor (w .held) at ms) i; told = w .told }
   start-linked-blind w (Wait ms) = held-wait-blind w ms
   start-linked-blind w Disconnect = disconnect-blind w
-  start-linked-blind w (Capture enabled) = finish-world w at Ok heldAt 0
-  start-linked-blind w (CaptureSecrets secrets) = finish-world w at Ok heldAt 0
+  start-linked-blind w (Capture enabled) = finish-world w at Ok heldAt 0 0
+  start-linked-blind w (CaptureSecrets secrets) = finish-world w at Ok heldAt 0 0
 
   pub start-blind : (w : World) → cutWorld (start w at) ≡ cutWorld (start (cutWorld w) at)
   unfolding start

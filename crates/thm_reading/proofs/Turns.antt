@@ -17,14 +17,14 @@ use Rattle.thm_reading.proofs.Blind.{cut, cutWorld, held-twice, world-t
 
 -- ---- a step ends
 
-module _ (h : Held) (at : Micros) (status : StepStatus) (from n : ℕ) where
+module _ (h : Held) (at : Micros) (status : StepStatus) (from n heard : ℕ) where
   abbrev c : Central
   c = h .state
 
   abbrev new : StepResult
-  new = record { index = c .running .index; at = at; status = status; len = n }
+  new = record { index = c .running .index; at = at; status = status; len = n; heard = heard }
 
-  pub ended-blind : cut (ended h at status from n) ≡ cut (ended (cut h) at status from n)
+  pub ended-blind : cut (ended h at status from n heard) ≡ cut (ended (cut h) at status from n heard)
   unfolding ended
   ended-blind = λ i.
       record {
@@ -34,15 +34,15 @@ module _ (h : Held) (at : Micros) (status : StepStatus) (from n : ℕ) where
         store = stored resultPart (c .results .count) (h .store) from n (h .store);
       }
 
-  pub finish-blind : cut (finish h at status from n) ≡ cut (finish (cut h) at status from n)
+  pub finish-blind : cut (finish h at status from n heard) ≡ cut (finish (cut h) at status from n heard)
   unfolding finish
   finish-blind =
-      pick-both cut (c .running .active) (ended h at status from n) h (ended (cut h) at status from n) (cut h) ended-blind (held-twice h)
+      pick-both cut (c .running .active) (ended h at status from n heard) h (ended (cut h) at status from n heard) (cut h) ended-blind (held-twice h)
 
 -- the same of a world
-pub finish-world : (w : World) (at : Micros) (status : StepStatus) (from n : ℕ)
-    → cutWorld (onHeld w (finish (w .held) at status from n)) ≡ cutWorld (onHeld (cutWorld w) (finish (cut (w .held)) at status from n))
-finish-world w at status from n = λ i. record { held = finish-blind (w .held) at status from n i; told = w .told }
+pub finish-world : (w : World) (at : Micros) (status : StepStatus) (from n heard : ℕ)
+    → cutWorld (onHeld w (finish (w .held) at status from n heard)) ≡ cutWorld (onHeld (cutWorld w) (finish (cut (w .held)) at status from n heard))
+finish-world w at status from n heard = λ i. record { held = finish-blind (w .held) at status from n heard i; told = w .told }
 
 -- ---- a step waits
 

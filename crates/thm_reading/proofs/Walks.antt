@@ -61,7 +61,7 @@ characteristics-become w l = λ i.
 
 module _ (at : Micros) where
   pub over-blind : (w : World) (status : StepStatus) → cutWorld (over w at status) ≡ cutWorld (over (cutWorld w) at status)
-  over-blind w status = finish-world w at status heldAt 0
+  over-blind w status = finish-world w at status heldAt 0 0
 
   -- ---- services
 

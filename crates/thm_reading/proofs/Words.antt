@@ -38,6 +38,7 @@ spare-bits =
       timer = λ store. one-reading says (λ c. readers.timer c (length store));
       handle = λ store. one-reading says (λ c. readers.handle c (length store));
       result = λ store index. one-reading says (λ c. readers.result c (length store) index);
+      passedOn = λ store index. one-reading says (λ c. readers.passedOn c (length store) index);
     }
 
 -- ---- dead places
@@ -75,4 +76,6 @@ dead-words =
       timer = λ store. alike _≡_ says (λ c. readers.timer c (length store)) (λ c d w v e. answers c d w v e .timer (length store));
       handle = λ store. alike _≡_ says (λ c. readers.handle c (length store)) (λ c d w v e. answers c d w v e .handle (length store));
       result = λ store index. alike _≡_ says (λ c. readers.result c (length store) index) (λ c d w v e. answers c d w v e .result (length store) index);
+      passedOn = λ store index.
+          alike _≡_ says (λ c. readers.passedOn c (length store) index) (λ c d w v e. answers c d w v e .passedOn (length store) index);
     }

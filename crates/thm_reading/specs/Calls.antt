@@ -19,6 +19,7 @@ use Rattle.state_readers.specs.Readers as readers
 use Rattle.state_readers.specs.declared.Timer.{Timer}
 use Rattle.state_readers.specs.declared.Handle.{Handle}
 use Rattle.state_readers.specs.declared.Given.{Given}
+use Rattle.state_readers.specs.declared.Passed.{Passed}
 use Rattle.state_core.specs.declared.Core.{Core}
 use Rattle.state_core.specs.Reading.{central}
 use Rattle.central_answers.specs.declared.Answer.{Answer}
@@ -80,6 +81,7 @@ pub record SpareBitsNeverMatter : Type 0 where
   pub timer : (store : List ℕ) → OneReading (says {A = Timer}) (λ c. readers.timer c (length store))
   pub handle : (store : List ℕ) → OneReading (says {A = Handle}) (λ c. readers.handle c (length store))
   pub result : (store : List ℕ) (index : ℕ) → OneReading (says {A = Given}) (λ c. readers.result c (length store) index)
+  pub passedOn : (store : List ℕ) (index : ℕ) → OneReading (says {A = Passed}) (λ c. readers.passedOn c (length store) index)
 
 -- ---- dead places: the same of two states whose readings differ in dead places alone
 
@@ -104,3 +106,4 @@ pub record DeadWordsNeverMatter : Type 0 where
   pub timer : (store : List ℕ) → AlikeReadings _≡_ (says {A = Timer}) (λ c. readers.timer c (length store))
   pub handle : (store : List ℕ) → AlikeReadings _≡_ (says {A = Handle}) (λ c. readers.handle c (length store))
   pub result : (store : List ℕ) (index : ℕ) → AlikeReadings _≡_ (says {A = Given}) (λ c. readers.result c (length store) index)
+  pub passedOn : (store : List ℕ) (index : ℕ) → AlikeReadings _≡_ (says {A = Passed}) (λ c. readers.passedOn c (length store) index)

@@ -21,7 +21,7 @@ use Rattle.thm_reading.specs.Same.{SameOutcome, SameQuiet, SameHeard}
 abbrev pub Sized : Central → Type 0
 Sized c = length (c .keys .kept) ≡ mostKeys
 
--- each of the ten calls, with the same other arguments
+-- each of the ten calls and `passed_on` (02, One), with the same other arguments
 pub record AnswersAlike (c d : Central) : Type 0 where
   pub pushSteps : (store out : List ℕ) (at : Micros) (b : Batch) (values : List ℕ)
       → SameOutcome (batch.pushSteps c store out at b values) (batch.pushSteps d store out at b values)
@@ -37,6 +37,7 @@ pub record AnswersAlike (c d : Central) : Type 0 where
   pub timer : (store : ℕ) → readers.timer c store ≡ readers.timer d store
   pub handle : (store : ℕ) → readers.handle c store ≡ readers.handle d store
   pub result : (store index : ℕ) → readers.result c store index ≡ readers.result d store index
+  pub passedOn : (store index : ℕ) → readers.passedOn c store index ≡ readers.passedOn d store index
 
 abbrev pub DeadPlacesNeverMatter : Type 0
 DeadPlacesNeverMatter = (c d : Central) → Sized c → Sized d → Alike c d → AnswersAlike c d

@@ -81,11 +81,11 @@ asks-quit e i (none b v) = none b v
 asks-quit e i (asks b) = asks (record { pdu = b .pdu; short = b .short; told = b .told; opcode = b .opcode; request = b .request; active = b .active; index = b .index ∙ i })
 
 -- a step ends: nothing is awaited
-pub asks-finish : (w : World) (at : Micros) (st : StepStatus) (from n : ℕ) → Asks w (onHeld w (finish (w .held) at st from n))
+pub asks-finish : (w : World) (at : Micros) (st : StepStatus) (from n heard : ℕ) → Asks w (onHeld w (finish (w .held) at st from n heard))
 unfolding finish ended
-asks-finish w at st from n = go (w .held .state .running .active)
+asks-finish w at st from n heard = go (w .held .state .running .active)
   where
-    go : (b : Bool) → Asks w (onHeld w (pick b (ended (w .held) at st from n) (w .held)))
+    go : (b : Bool) → Asks w (onHeld w (pick b (ended (w .held) at st from n heard) (w .held)))
     go true = none (not-awaited (w .held .state .bearer .present)) (hushed (itself (w .told)))
     go false = asks-none w
 

@@ -185,7 +185,7 @@ asks-present w at n asked-variants.Written k = go (eqb (getD (payload (w .held) 
 asks-present w at n asked-variants.Value k = go (eqb (getD (payload (w .held) n) 0 0) opReadRsp)
   where
     go : (b : Bool) → Asks w (pick b (valueRead w at n) w)
-    go true = asks-finish w at Ok (payloadAt + 1) (n - 1)
+    go true = asks-finish w at Ok (payloadAt + 1) (n - 1) 0
     go false = asks-none w
 asks-present w at n asked-variants.Nothing k = asks-none w
 

@@ -33,7 +33,7 @@ use Rattle.link_rules.specs.Responses.{counts}
 use Rattle.link_rules.specs.Channel.{onChannel}
 use Rattle.thm_trail.specs.Trail.{att-heard, Pass, pass, met, parted, cameOn}
 use Rattle.thm_trail.specs.Log.{keptResults, noValued, upTo, newer, gave}
-use Rattle.thm_trail.proofs.Hops.{Open, Hop, ended, began, meets, parts, still, acted}
+use Rattle.thm_trail.proofs.Hops.{Open, Hop, ended, began, meets, parts, still, acted, still-values}
 use Rattle.thm_wire.specs.Wire.{sentIn}
 use Rattle.thm_accounting.proofs.Gives.{Gives, nothing, one, Whole, kept-values}
 use Rattle.thm_accounting.proofs.Starts.{gives-ends, gives-start}
@@ -219,12 +219,12 @@ hop-ends : (es : List Event) (l : List (Valued StepResult)) (q : List Queued) {w
 hop-ends es l q (ended w at st n) s b i u e = go (w .held .state .running .active) refl
   where
     go : (x : Bool) → w .held .state .running .active ≡ x → Ends (eventsIn w (pass (onHeld w (ends (w .held) at st)))) es (w .held) (ends (w .held) at st)
-    go true a = ended-ends es _ l q w at st (λ f. n u (running-is l q (w .held) u b a e) f) (whole w s (b .sizes)) b a
+    go true a = ended-ends es _ l q w at st (λ f. n .read u (running-is l q (w .held) u b a e) f) (whole w s (b .sizes)) b a
     go false a = nothing-given (idle-gave l q (w .held) (ends (w .held) at st) b (gives-ends (w .held) at st (whole w s (b .sizes))) a)
 hop-ends es l q (began w at t g) s b i u e = began-ends es _ l q w at u s g b e
-hop-ends es l q (meets w handle) s b i u e = nothing-given (none-gave l q (w .held) (met w handle .held) b refl)
+hop-ends es l q (meets w handle few) s b i u e = nothing-given (none-gave l q (w .held) (met w handle .held) b refl)
 hop-ends es l q (parts w) s b i u e = nothing-given (none-gave l q (w .held) (parted w .held) b refl)
-hop-ends es l q (still w g t) s b i u e = nothing-given (none-gave l q (w .held) g b (kept-values (w .held) g (whole w s (b .sizes)) (t .results) (t .values)))
+hop-ends es l q (still w g t) s b i u e = nothing-given (none-gave l q (w .held) g b (kept-values (w .held) g (whole w s (b .sizes)) (t .results) (still-values t)))
 hop-ends es l q (acted w at channel n o t) s b i u e = go (w .held .state .running .active) refl
   where
     go : (x : Bool) → w .held .state .running .active ≡ x
@@ -245,9 +245,9 @@ hop-most l q (began w at t g) s b = go (at-most l q (takeStep (w .held)) (stepOn
     go : AtMost (takeStep (w .held)) (stepOnce w at .held) → AtMost (w .held) (stepOnce w at .held)
     go (no e) = no (same ∙ e)
     go (yes x e) = yes x (same ∙ e)
-hop-most l q (meets w handle) s b = no (none-gave l q (w .held) (met w handle .held) b refl)
+hop-most l q (meets w handle few) s b = no (none-gave l q (w .held) (met w handle .held) b refl)
 hop-most l q (parts w) s b = no (none-gave l q (w .held) (parted w .held) b refl)
-hop-most l q (still w g t) s b = no (none-gave l q (w .held) g b (kept-values (w .held) g (whole w s (b .sizes)) (t .results) (t .values)))
+hop-most l q (still w g t) s b = no (none-gave l q (w .held) g b (kept-values (w .held) g (whole w s (b .sizes)) (t .results) (still-values t)))
 hop-most l q (acted w at channel n o t) s b = at-most l q (w .held) _ b (gives-channel w at channel n (o .short) (whole w s (b .sizes)))
 
 -- ---- the invariant

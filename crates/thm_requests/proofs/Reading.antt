@@ -43,7 +43,7 @@ use Rattle.thm_accounting.proofs.Channels as books
 
 -- the result of a step that ends so
 abbrev pub resultOf : Held → Micros → StepStatus → ℕ → ℕ → Valued StepResult
-resultOf h at st from n = record { entry = record { index = h .state .running .index; at = at; status = st; len = n }; value = bytes (h .store) from n }
+resultOf h at st from n = record { entry = record { index = h .state .running .index; at = at; status = st; len = n; heard = 0 }; value = bytes (h .store) from n }
 
 -- nothing is given, or the running step's result with another status than Ok
 pub data Poorly (h g : Held) : Type 0 where
@@ -51,7 +51,7 @@ pub data Poorly (h g : Held) : Type 0 where
   ended : (x : Valued StepResult) → x .entry .index ≡ h .state .running .index → (x .entry .status ≡ Ok → ⊥) → keptResults g ≡ pushed mostResults (keptResults h) x → Poorly h g
 
 pub poorly-ends : (h : Held) (at : Micros) (st : StepStatus) → (st ≡ Ok → ⊥) → Whole h → h .state .running .active ≡ true → Poorly h (ends h at st)
-poorly-ends h at st bad w a = ended (resultOf h at st heldAt 0) refl bad (finish-pushes h at st heldAt 0 w (omega arith) (omega arith) a)
+poorly-ends h at st bad w a = ended (resultOf h at st heldAt 0) refl bad (finish-pushes h at st heldAt 0 0 w (omega arith) (omega arith) a)
 
 -- ---- a Read that begins
 
@@ -146,7 +146,7 @@ module _ (u : Uuid) where
               counted = c;
               opcode = eqb-true (getD p 0 0) opReadRsp e;
               told = refl;
-              results = finish-pushes (v .held) at Ok (payloadAt + 1) (n - 1) whole-v (omega (arith, short)) (omega (arith, short)) a;
+              results = finish-pushes (v .held) at Ok (payloadAt + 1) (n - 1) 0 whole-v (omega (arith, short)) (omega (arith, short)) a;
             })
         go false e = same refl
 

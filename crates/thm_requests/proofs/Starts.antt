@@ -9,6 +9,8 @@ use lib.Dec.{eqb, ltb}
 use Rattle.bytes.specs.Choice.{pick}
 use Rattle.state_places.specs.Sizes.{heldAt, runningAt}
 use Rattle.time.specs.declared.Micros.{Micros}
+use Rattle.notifications.specs.declared.Age.{Age}
+use Rattle.notifications.specs.declared.Wanted.{Wanted}
 use Rattle.gatt_services.specs.declared.Service.{Service}
 use Rattle.gatt_services.specs.declared.Which as service-which
 use Rattle.gatt_services.specs.declared.Which.the-variants as service-variants
@@ -35,7 +37,7 @@ use Rattle.script_rules.specs.declared.Alone.{Alone}
 use Rattle.script_rules.specs.declared.Alone.the-variants as alone
 use Rattle.script_rules.specs.declared.Awaited.{Awaited}
 use Rattle.script_rules.specs.declared.Awaited.the-variants as awaited-variants
-use Rattle.script_rules.specs.Wait.{waitPasses, passed, checkOne, awaited, checkFor, checkWait}
+use Rattle.script_rules.specs.Wait.{wanted, waitPasses, passedOn, passed, passing, checkOne, awaited, checkFor, checkWait}
 use Rattle.script_rules.specs.Start.{ends, waitsFor, unlinkedStep, startAlone, startUnlinked, forgotten, discoverIn, subscribeAt, subscribe, commanded, write, read, terminated, asksTo, disconnect, startLinked, start}
 use Rattle.script_rules.specs.Send.{send}
 use Rattle.l2cap.specs.Numbers.{cidAtt}
@@ -52,7 +54,7 @@ use Rattle.att_pdu.proofs.PduLaws.{length-exchangeMtuReq, length-findInformatio
 use Rattle.thm_requests.proofs.Asks.{itself, speaks, Asks, calm, none, hushed, asks-none, mild, asks-then, asks-finish, asks-request, asks-asking, not-awaited}
 
 pub asks-ends : (w : World) (at : Micros) (st : StepStatus) → Asks w (onHeld w (ends (w .held) at st))
-asks-ends w at st = asks-finish w at st heldAt 0
+asks-ends w at st = asks-finish w at st heldAt 0 0
 
 -- ---- discovery
 
@@ -79,22 +81,24 @@ asks-characteristics w at svc from a = go (ltb (svc .end) from || eqb from 0)
 
 -- ---- the wait check
 
-asks-one : (w : World) (at : Micros) (x : Which) → Asks w (onHeld w (checkOne (w .held) at x))
-unfolding checkOne
-asks-one w at Nothing = asks-finish w at _ heldAt 0
-asks-one w at (At x) = go (waitPasses (w .held) (x .«value_handle»))
-  where
-    g : Held
-    g = onState (w .held) (withCounters (w .held .state) (passed (w .held .state .counters)))
+asks-passing : (w : World) (at : Micros) (x : Wanted) → Asks w (onHeld w (passing (w .held) at x))
+asks-passing w at x =
+    let g = onState (w .held) (withCounters (w .held .state) (passed (w .held .state .counters))) in
+    asks-then (mild {w = w} {g = g} refl refl refl refl) (asks-finish (onHeld w g) at Ok heldAt 0 (passedOn (w .held .state) x (x .age)))
 
-    go : (b : Bool) → Asks w (onHeld w (pick b (finish g at Ok heldAt 0) (w .held)))
-    go true = asks-then (mild {w = w} {g = g} refl refl refl refl) (asks-finish (onHeld w g) at Ok heldAt 0)
-    go false = asks-none w
+asks-one : (w : World) (at : Micros) (age : Age) (x : Which) → Asks w (onHeld w (checkOne (w .held) at age x))
+unfolding checkOne
+asks-one w at age Nothing = asks-finish w at _ heldAt 0 0
+asks-one w at age (At x) = let y = wanted (w .held .state) at (x .«value_handle») age in go y (waitPasses (w .held) y)
+  where
+    go : (y : Wanted) (b : Bool) → Asks w (onHeld w (pick b (passing (w .held) at y) (w .held)))
+    go y true = asks-passing w at y
+    go y false = asks-none w
 
 asks-for : (w : World) (at : Micros) (x : Awaited) → Asks w (onHeld w (checkFor (w .held) at x))
 unfolding checkFor
 asks-for w at awaited-variants.Nothing = asks-none w
-asks-for w at (awaited-variants.On u) = asks-one w at _
+asks-for w at (awaited-variants.On u age) = asks-one w at age _
 
 pub asks-check : (w : World) (at : Micros) → Asks w (onHeld w (checkWait (w .held) at))
 unfolding checkWait
@@ -143,7 +147,7 @@ module _ (w : World) (at : Micros) (a : w .held .state .running .active ≡ true
   unfolding finish ended
   asks-commanded handle n k = go (w .held .state .running .active) a
     where
-      go : (b : Bool) → b ≡ true → Asks w (record { held = pick b (ended (w .held) at Ok heldAt 0) (w .held); told = send (w .told) cidAtt (attPdu opWriteCmd handle (w .held .store) runningAt n) })
+      go : (b : Bool) → b ≡ true → Asks w (record { held = pick b (ended (w .held) at Ok heldAt 0 0) (w .held); told = send (w .told) cidAtt (attPdu opWriteCmd handle (w .held .store) runningAt n) })
       go true e =
           let pdu = attPdu opWriteCmd handle (w .held .store) runningAt n in
           none (not-awaited (w .held .state .bearer .present))
@@ -195,7 +199,7 @@ module _ (w : World) (at : Micros) (a : w .held .state .running .active ≡ true
   asks-linked (Subscribe u indicate) = asks-subscribe indicate _
   asks-linked (Write u response) = asks-write response _
   asks-linked (Read u) = asks-read _
-  asks-linked (WaitNotification u ms) = asks-then (mild {w = w} {g = waitsFor (w .held) at ms} refl refl refl refl) (asks-check (onHeld w (waitsFor (w .held) at ms)) at)
+  asks-linked (WaitNotification u ms age) = asks-then (mild {w = w} {g = waitsFor (w .held) at ms} refl refl refl refl) (asks-check (onHeld w (waitsFor (w .held) at ms)) at)
   asks-linked (Wait ms) = calm (mild refl refl refl refl)
   asks-linked Disconnect = asks-disconnect
   asks-linked (Capture enabled) = asks-ends w at Ok

@@ -231,7 +231,7 @@ asked-hop : (l : List (Valued StepResult)) (q : List Queued) {w : World} {p : Pa
     → Books (l ++ gave (w .held) (p .to .held)) q (p .to .held) → Asked q (length l) w (p .to)
 asked-hop l q (ended w at st n) s s' b b' = hushed-hop q (length l) w (ends (w .held) at st)
 asked-hop l q (began w at t g) s s' b b' = asked-began l q w at g s s' b b'
-asked-hop l q (meets w handle) s s' b b' = hushed-hop q (length l) w (met w handle .held)
+asked-hop l q (meets w handle few) s s' b b' = hushed-hop q (length l) w (met w handle .held)
 asked-hop l q (parts w) s s' b b' = hushed-hop q (length l) w (parted w .held)
 asked-hop l q (still w g t) s s' b b' = hushed-hop q (length l) w g
 asked-hop l q (acted w at channel n o t) s s' b b' =

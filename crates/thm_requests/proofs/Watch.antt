@@ -30,7 +30,7 @@ use Rattle.link_rules.specs.Payload.{payload}
 use Rattle.link_rules.specs.Channel.{onChannel}
 use Rattle.thm_trail.specs.Trail.{link-came, link-went, att-heard, Pass, pass, met, parted, cameOn}
 use Rattle.thm_trail.specs.Log.{keptResults, gave}
-use Rattle.thm_trail.proofs.Hops.{Still, Hop, ended, began, meets, parts, still, acted}
+use Rattle.thm_trail.proofs.Hops.{Still, Hop, ended, began, meets, parts, still, acted, still-values}
 use Rattle.thm_wire.specs.Wire.{sentIn, asSent, written, mtuOf}
 use Rattle.thm_wire.proofs.Bytes.{sent-frame, sent-written}
 use Rattle.thm_accounting.proofs.Gives.{Gives, nothing, one, Whole, kept-values}
@@ -249,11 +249,11 @@ waits-began es l q w at s g b = go (asks-start u at refl (s .nearly .linked .mtu
 
 pub waits-hop : (es : List Event) (l : List (Valued StepResult)) (q : List Queued) {w : World} {p : Pass} → Hop w p → Sound 65 w → Books l q (w .held) → Waits es (w .held)
     → Waits (es ++ eventsIn w p) (p .to .held)
-waits-hop es l q (ended w at st n) s b i = waits-hushed es l q w _ b (runs-on (gives-ends (w .held) at st (whole w s (b .sizes)))) (asks-finish w at st _ 0) i
+waits-hop es l q (ended w at st n) s b i = waits-hushed es l q w _ b (runs-on (gives-ends (w .held) at st (whole w s (b .sizes)))) (asks-finish w at st _ 0 0) i
 waits-hop es l q (began w at t g) s b i = waits-began es l q w at s g b
-waits-hop es l q (meets w handle) s b i = waits-none _ (met w handle .held) refl
+waits-hop es l q (meets w handle few) s b i = waits-none _ (met w handle .held) refl
 waits-hop es l q (parts w) s b i = waits-none _ (parted w .held) refl
-waits-hop es l q (still w g t) s b i = waits-hushed es l q w g b (λ e. kept-values (w .held) g (whole w s (b .sizes)) (t .results) (t .values)) (calm (calm-still w g t)) i
+waits-hop es l q (still w g t) s b i = waits-hushed es l q w g b (λ e. kept-values (w .held) g (whole w s (b .sizes)) (t .results) (still-values t)) (calm (calm-still w g t)) i
 waits-hop es l q (acted w at channel n o t) s b i =
     waits-any es l q w (record { came = cameOn channel (payload (w .held) n); to = onChannel w at channel n }) (record { store = s .ready .store; out = s .ready .out; results = s .ready .results; frames = omega (arith, o .unsent); bytes = s .ready .bytes })
     (calm-news channel (payload (w .held) n)) b (gives-channel w at channel n (o .short) (whole w s (b .sizes))) (asks-channel w at channel n) i

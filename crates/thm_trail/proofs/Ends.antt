@@ -88,7 +88,7 @@ disconnected-final w at = go (goesOn (u .held .state .running .step))
 
     go : (b : Bool) → final u (pick b (onward u at) (thenOnward (onHeld u gone) at)) ≡ onHeld w (advance (silent (pick b (u .held) gone)) at .held)
     go true = onward-final u at ∙ alike (u .held) refl
-    go false = onward-final (onHeld u gone) at ∙ alike gone (present-finish (u .held) at _ _ 0)
+    go false = onward-final (onHeld u gone) at ∙ alike gone (present-finish (u .held) at _ _ 0 0)
 
 fragment-final : (w : World) (at : Micros) (start : Bool) (bytes : List ℕ) → final w (fragmentTrail w at start bytes) ≡ hear w at start bytes
 unfolding fragmentTrail hear gather frameRead

@@ -8,21 +8,20 @@ use lib.ListN.{length, length-replicate}
 use lib.Dec.{eqb, ltb}
 use borrow.Author.Tests.{eqb-true}
 use Rattle.bytes.specs.Choice.{pick}
-use Rattle.state_places.specs.Sizes.{mostKeys, storeSize, outputSize, mostResults, resultSize, resultAt, heldAt, frameSize, reportAt, responseAt}
+use Rattle.state_places.specs.Sizes.{mostKeys, storeSize, outputSize, heldAt, frameSize, reportAt, responseAt}
 use Rattle.lists.specs.Blocks.{bytes}
 use Rattle.lists.proofs.BlockLaws.{bytes-below, stored-below}
 use Rattle.time.specs.declared.Micros.{Micros}
 use Rattle.time.specs.Clock.{latest}
-use Rattle.uuid.specs.declared.Uuid.{Uuid}
 use Rattle.state.specs.Central.{Central}
 use Rattle.state.specs.declared.Reports.{Reports}
 use Rattle.state.specs.declared.Address.{Address}
 use Rattle.state.specs.declared.Step.{Step}
-use Rattle.state.specs.declared.Step.the-variants.{Read}
 use Rattle.state.specs.declared.StepStatus.{StepStatus}
 use Rattle.state.specs.declared.StepStatus.the-variants.{Ok, Timeout, Disconnected}
 use Rattle.state.specs.declared.LinkRequest.the-variants.{Nothing}
 use Rattle.state_rules.specs.Refusals.{accepted, keysFull}
+use Rattle.state_rules.specs.Fit.{mostLinks}
 use Rattle.state_rules.specs.Facts.{Fit}
 use Rattle.state_rules.specs.Gate.{gate, gateQuiet}
 use Rattle.state_rules.proofs.GateLaws.{passed, passed-quiet, passed-reader}
@@ -30,7 +29,7 @@ use Rattle.script_rules.specs.World.{Held, World, onHeld, onState}
 use Rattle.script_rules.specs.Start.{ends}
 use Rattle.script_rules.specs.Sound.{Sound}
 use Rattle.script_rules.proofs.KeepTurns.{Stays, of-fit}
-use Rattle.script_rules.proofs.CallBeginLaws.{begins-sound, sound-stays, may-begin}
+use Rattle.script_rules.proofs.CallBeginLaws.{begins-sound, sound-stays, may-begin, may-connect}
 use Rattle.script_rules.proofs.CallLaws.{passed-batch, pushed-sound}
 use Rattle.script_rules.specs.Events.{timedOut, due, isConnect, goesOn, cutStatus}
 use Rattle.radio_rules.specs.Hearing as radio
@@ -47,7 +46,7 @@ use Rattle.link_rules.proofs.FragmentLaws.{PassedFragment, passed-fragment}
 use Rattle.link_rules.proofs.KeepFrames.{comes-linked, whole-short, stays-held, stays-gathered}
 use Rattle.thm_trail.specs.Calls.{timerUs, Call, batch, timer, connected, disconnected, advertising, scanResponse, fragment, reads, blank, timeOf, gateOf, done?}
 use Rattle.thm_trail.specs.Trail.{pass, met, parted, thenOnward, onward, cameOn, timerTrail, connectedTrail, disconnectedTrail, fragmentTrail, begins, goes}
-use Rattle.thm_trail.proofs.Hops.{Sizes, Still, Open, ended, meets, parts, still, acted, Hops, AllAt, HopsAt, stop, hop, onward-hops}
+use Rattle.thm_trail.proofs.Hops.{Sizes, NotWell, Still, Open, ended, meets, parts, still, acted, Hops, AllAt, HopsAt, stop, hop, onward-hops}
 
 -- what a call that is not refused begins with, and goes through
 pub record Good (h : Held) (c : Call) : Type 0 where
@@ -60,16 +59,22 @@ pub record Good (h : Held) (c : Call) : Type 0 where
 of-hops : {h : Held} {c : Call} → Sound 65 (begins h c) → HopsAt (timeOf c) (begins h c) (goes h c) → Good h c
 of-hops s x = record { sound = s; hops = x .hops; times = x .times }
 
--- ---- no Read ends well by the clock, by a new link or by a lost one
+-- ---- neither a Read nor a WaitNotification ends well by the clock, by a new link or by a lost one
 
-late : (s : Step) (u : Uuid) → s ≡ Read u → timedOut s ≡ Ok → ⊥
-late s u e f = let z : Timeout ≡ Ok = sym (ap timedOut e) ∙ f in let y : _≡_ {A = ℕ} 0 1 = cc in omega arith
+not-timeout : Timeout ≡ Ok → ⊥
+not-timeout z = let y : _≡_ {A = ℕ} 0 1 = cc in omega arith
 
-cut : (s : Step) (u : Uuid) → s ≡ Read u → cutStatus s ≡ Ok → ⊥
-cut s u e f = let z : Disconnected ≡ Ok = sym (ap cutStatus e) ∙ f in let y : _≡_ {A = ℕ} 0 1 = cc in omega arith
+late : (w : World) → NotWell w (timedOut (w .held .state .running .step))
+late w = record { read = λ u e f. not-timeout (sym (ap timedOut e) ∙ f); wait = λ u ms age e f. not-timeout (sym (ap timedOut e) ∙ f) }
 
-greeting : (s : Step) (u : Uuid) → isConnect s ≡ true → s ≡ Read u → ⊥
-greeting s u c e = false≢true (sym (ap isConnect e) ∙ c)
+not-disconnected : Disconnected ≡ Ok → ⊥
+not-disconnected z = let y : _≡_ {A = ℕ} 0 1 = cc in omega arith
+
+cut : (w : World) → NotWell w (cutStatus (w .held .state .running .step))
+cut w = record { read = λ u e f. not-disconnected (sym (ap cutStatus e) ∙ f); wait = λ u ms age e f. not-disconnected (sym (ap cutStatus e) ∙ f) }
+
+greeting : (w : World) → isConnect (w .held .state .running .step) ≡ true → NotWell w Ok
+greeting w c = record { read = λ u e f. false≢true (sym (ap isConnect e) ∙ c); wait = λ u ms age e f. false≢true (sym (ap isConnect e) ∙ c) }
 
 -- ---- the trails
 
@@ -84,12 +89,12 @@ timer-hops w at t = go (due (w .held .state .running) at)
     v = onHeld w (ends (w .held) at st)
 
     go : (b : Bool) → HopsAt at w (pick b (thenOnward v at) [])
-    go true = hop (ended w at st (λ u e f. late (w .held .state .running .step) u e f)) refl (onward-hops v at t)
+    go true = hop (ended w at st (late w)) refl (onward-hops v at t)
     go false = stop
 
-connected-hops : (w : World) (handle : ℕ) (at : Micros) → at .0 ≤ latest → HopsAt at w (connectedTrail w handle at)
+connected-hops : (w : World) (handle : ℕ) (at : Micros) → at .0 ≤ latest → w .held .state .counters .links < mostLinks → HopsAt at w (connectedTrail w handle at)
 unfolding connectedTrail
-connected-hops w handle at t = hop (meets w handle) tt (go (isConnect s) refl)
+connected-hops w handle at t few = hop (meets w handle few) tt (go (isConnect s) refl)
   where
     u : World
     u = met w handle
@@ -101,7 +106,7 @@ connected-hops w handle at t = hop (meets w handle) tt (go (isConnect s) refl)
     v = onHeld u (ends (u .held) at Ok)
 
     go : (b : Bool) → isConnect s ≡ b → HopsAt at u (pick b (thenOnward v at) (onward u at))
-    go true e = hop (ended u at Ok (λ x f g. greeting s x e f)) refl (onward-hops v at t)
+    go true e = hop (ended u at Ok (greeting u e)) refl (onward-hops v at t)
     go false e = onward-hops u at t
 
 disconnected-hops : (w : World) (at : Micros) → at .0 ≤ latest → HopsAt at w (disconnectedTrail w at)
@@ -119,7 +124,7 @@ disconnected-hops w at t = hop (parts w) tt (go (goesOn s))
 
     go : (b : Bool) → HopsAt at u (pick b (onward u at) (thenOnward v at))
     go true = onward-hops u at t
-    go false = hop (ended u at (cutStatus s) (λ x f g. cut s x f g)) refl (onward-hops v at t)
+    go false = hop (ended u at (cutStatus s) (cut u)) refl (onward-hops v at t)
 
 -- ---- bytes held of a frame
 
@@ -136,7 +141,8 @@ still-gathered h start piece s =
       results = refl;
       link = refl;
       present = refl;
-      values = λ k p n q. bytes-below (h .store) (heldAt + heldBefore (h .state .bearer) start) piece 0 (length piece) (resultAt k) n (omega (arith, p, q));
+      notifications = refl;
+      below = λ a n p. bytes-below (h .store) (heldAt + heldBefore (h .state .bearer) start) piece 0 (length piece) a n (omega (arith, p));
       store = s .store;
       nearly = s .nearly;
       sizes = sizes-held (h .state) (heldBefore (h .state .bearer) start + length piece);
@@ -144,7 +150,7 @@ still-gathered h start piece s =
 
 pub still-emptied : (h : Held) → Stays h (onState h (withHeld (h .state) 0)) → Still h (onState h (withHeld (h .state) 0))
 still-emptied h s =
-    record { counters = refl; queue = refl; running = refl; results = refl; link = refl; present = refl; values = λ k p n q. refl; store = refl; nearly = s .nearly; sizes = sizes-held (h .state) 0 }
+    record { counters = refl; queue = refl; running = refl; results = refl; link = refl; present = refl; notifications = refl; below = λ a n p. refl; store = refl; nearly = s .nearly; sizes = sizes-held (h .state) 0 }
 
 module _ (h : Held) (out : List ℕ) (at : Micros) (start : Bool) (piece : List ℕ) (p : PassedFragment (h .state) (length (h .store)) (length out) at start (length piece)) where
   abbrev w : World
@@ -256,9 +262,10 @@ pub record Off (c d : Central) : Type 0 where
   pub running : d .running ≡ c .running
   pub results : d .results ≡ c .results
   pub bearer : d .bearer ≡ c .bearer
+  pub notifications : d .notifications ≡ c .notifications
 
 off : (c : Central) → Off c c
-off c = record { counters = refl; queue = refl; running = refl; results = refl; bearer = refl }
+off c = record { counters = refl; queue = refl; running = refl; results = refl; bearer = refl; notifications = refl }
 
 pub radio-off : (c : Central) (s : List ℕ) (v : radio.Adv) → Off c (radio.advertised c s v .state)
 unfolding radio.advertised radio.heard radio.acted
@@ -274,8 +281,8 @@ radio-off c s v = go (eqb (radio.refusal c (length s) v) accepted) (listens (c .
     act x t m j = pick x (radio.requested c v t m) (radio.weighed c v t m j)
 
     act-off : (x : Bool) (t : Reports) (m : List ℕ) (j : ℕ) → Off c (act x t m j .state)
-    act-off true t m j = record { counters = refl; queue = refl; running = refl; results = refl; bearer = refl }
-    act-off false t m j = record { counters = refl; queue = refl; running = refl; results = refl; bearer = refl }
+    act-off true t m j = record { counters = refl; queue = refl; running = refl; results = refl; bearer = refl; notifications = refl }
+    act-off false t m j = record { counters = refl; queue = refl; running = refl; results = refl; bearer = refl; notifications = refl }
 
     a : List ℕ
     a = againStore i (v .bytes) s
@@ -301,7 +308,7 @@ response-off c s at a d = go (eqb (radio.responseRefusal c (length s) at (length
 
     go : (x y : Bool)
         → Off c (pick x (pick y (radio.answered c s at d i) (radio.unchanged c s accepted)) (radio.unchanged c s (radio.responseRefusal c (length s) at (length d))) .state)
-    go true true = record { counters = refl; queue = refl; running = refl; results = refl; bearer = refl }
+    go true true = record { counters = refl; queue = refl; running = refl; results = refl; bearer = refl; notifications = refl }
     go true false = off c
     go false y = off c
 
@@ -342,7 +349,7 @@ begins-quiet : (h : Held) → length (h .store) ≡ storeSize → Fit (h .state)
 begins-quiet h s f = begins-sound h blank s (omega (arith, length-blank)) (of-fit (h .state) f)
 
 still-radio : (h : Held) (x : radio.Outcome) → Off (h .state) (x .state) → radio-keeps.Sound (length (h .store)) x
-    → ((k : ℕ) → k < mostResults → (n : ℕ) → n ≤ resultSize → bytes (x .store) (resultAt k) n ≡ bytes (h .store) (resultAt k) n)
+    → ((a n : ℕ) → a + n ≤ heldAt → bytes (x .store) a n ≡ bytes (h .store) a n)
     → Still h (record { state = x .state; store = x .store })
 still-radio h x o s v =
     record {
@@ -352,7 +359,8 @@ still-radio h x o s v =
       results = o .results;
       link = ap (λ b. b .link) (o .bearer);
       present = ap (λ b. b .present) (o .bearer);
-      values = v;
+      notifications = o .notifications;
+      below = v;
       store = s .store;
       nearly = of-fit (x .state) (s .fit);
       sizes = λ z.
@@ -372,8 +380,8 @@ good h (timer out at) e z =
     let p = may-begin (h .state) (h .store) out at (eqb-true (gateOf h (timer out at)) 0 e) in
     of-hops (p .0) (timer-hops (begins h (timer out at)) at (p .1))
 good h (connected out handle at) e z =
-    let p = may-begin (h .state) (h .store) out at (eqb-true (gateOf h (connected out handle at)) 0 e) in
-    of-hops (p .0) (connected-hops (begins h (connected out handle at)) handle at (p .1))
+    let p = may-connect (h .state) (h .store) out at (eqb-true (gateOf h (connected out handle at)) 0 e) in
+    of-hops (p .0) (connected-hops (begins h (connected out handle at)) handle at (p .1) (p .2))
 good h (disconnected at) e z =
     let p = passed-quiet (h .state) (length (h .store)) at (eqb-true (gateOf h (disconnected at)) 0 e) in
     of-hops (begins-quiet h (p .store) (p .fit)) (disconnected-hops (begins h (disconnected at)) at (p .time))
@@ -383,7 +391,7 @@ good h (advertising v) e z =
     of-hops (begins-quiet h (q .gate .store) (q .gate .fit))
     (hop
     (still (begins h (advertising v)) (record { state = x .state; store = x .store })
-    (still-radio h x (radio-off (h .state) (h .store) v) (radio-keeps.advertised-sound (h .state) (h .store) (q .gate .fit) (z .reports) (z .keys) v) (λ k p n q. radio-below (h .state) (h .store) v (resultAt k) n (omega (arith, p, q)))))
+    (still-radio h x (radio-off (h .state) (h .store) v) (radio-keeps.advertised-sound (h .state) (h .store) (q .gate .fit) (z .reports) (z .keys) v) (λ a n p. radio-below (h .state) (h .store) v a n (omega (arith, p)))))
     tt stop)
 good h (scanResponse at a d) e z =
     let q = radio-laws.passed (h .state) (length (h .store)) at (length d) (eqb-true (gateOf h (scanResponse at a d)) 0 e) in
@@ -391,7 +399,7 @@ good h (scanResponse at a d) e z =
     of-hops (begins-quiet h (q .gate .store) (q .gate .fit))
     (hop
     (still (begins h (scanResponse at a d)) (record { state = x .state; store = x .store })
-    (still-radio h x (response-off (h .state) (h .store) at a d) (radio-keeps.responded-sound (h .state) (h .store) (q .gate .fit) (z .reports) (z .keys) at a d) (λ k p n m. response-below (h .state) (h .store) at a d (resultAt k) n (omega (arith, p, m)))))
+    (still-radio h x (response-off (h .state) (h .store) at a d) (radio-keeps.responded-sound (h .state) (h .store) (q .gate .fit) (z .reports) (z .keys) at a d) (λ b n p. response-below (h .state) (h .store) at a d b n (omega (arith, p)))))
     tt stop)
 good h (fragment out at start piece) e z =
     let p = passed-fragment (h .state) (length (h .store)) (length out) at start (length piece) (eqb-true (gateOf h (fragment out at start piece)) 0 e) in

@@ -3,18 +3,21 @@ use Prim.Native.Nat.{ℕ, zero, suc, _+_, _≤_, _<_}
 use mathlib.Core.Path.{_≡_, refl}
 use mathlib.Core.Bool.{Bool, true, false}
 use mathlib.Core.List.{List, [], _∷_}
+use native.Mathlib.Omega.{arith}
 use lib.ListN.{length}
 use Rattle.bytes.specs.Choice.{pick}
 use Rattle.lists.specs.Blocks.{bytes}
-use Rattle.state_places.specs.Sizes.{mostSteps, mostResults, mostKeys, resultSize, resultAt}
+use Rattle.state_places.specs.Sizes.{mostSteps, mostResults, mostKeys, resultSize, resultAt, heldAt}
 use Rattle.time.specs.declared.Micros.{Micros}
+use Rattle.time.specs.declared.Millis.{Millis}
 use Rattle.time.specs.Clock.{latest}
 use Rattle.uuid.specs.declared.Uuid.{Uuid}
+use Rattle.notifications.specs.declared.Age.{Age}
 use Rattle.state.specs.Central.{Central}
-use Rattle.state.specs.declared.Step.the-variants.{Read}
+use Rattle.state.specs.declared.Step.the-variants.{Read, WaitNotification}
 use Rattle.state.specs.declared.StepStatus.{StepStatus}
 use Rattle.state.specs.declared.StepStatus.the-variants.{Ok}
-use Rattle.state_rules.specs.Fit.{mostNotified}
+use Rattle.state_rules.specs.Fit.{mostNotified, mostLinks}
 use Rattle.script_rules.specs.World.{Held, World, onHeld}
 use Rattle.adv_reports.specs.Whole.{Whole}
 use Rattle.script_rules.specs.Start.{ends}
@@ -32,11 +35,12 @@ pub record Sizes (c : Central) : Type 0 where
   pub reports : Whole (c .reports)
   pub keys : length (c .keys .kept) ≡ mostKeys
 
--- no Read ends well so
-abbrev pub NoRead : World → StepStatus → Type 0
-NoRead w st = (u : Uuid) → w .held .state .running .step ≡ Read u → st ≡ Ok → ⊥
+-- neither a Read nor a WaitNotification ends well so
+pub record NotWell (w : World) (st : StepStatus) : Type 0 where
+  pub read : (u : Uuid) → w .held .state .running .step ≡ Read u → st ≡ Ok → ⊥
+  pub wait : (u : Uuid) (ms : Millis) (age : Age) → w .held .state .running .step ≡ WaitNotification u ms age → st ≡ Ok → ⊥
 
--- nothing of the script, its results, the link and the counters changes, nor any byte of a result's value
+-- nothing of the script, its results, the notifications, the link and the counters changes, nor any byte of their values
 pub record Still (h g : Held) : Type 0 where
   pub counters : g .state .counters ≡ h .state .counters
   pub queue : g .state .queue ≡ h .state .queue
@@ -44,10 +48,14 @@ pub record Still (h g : Held) : Type 0 where
   pub results : g .state .results ≡ h .state .results
   pub link : g .state .bearer .link ≡ h .state .bearer .link
   pub present : g .state .bearer .present ≡ h .state .bearer .present
-  pub values : (k : ℕ) → k < mostResults → (n : ℕ) → n ≤ resultSize → bytes (g .store) (resultAt k) n ≡ bytes (h .store) (resultAt k) n
+  pub notifications : g .state .notifications ≡ h .state .notifications
+  pub below : (a n : ℕ) → a + n ≤ heldAt → bytes (g .store) a n ≡ bytes (h .store) a n
   pub store : length (g .store) ≡ length (h .store)
   pub nearly : Nearly (g .state)
   pub sizes : Sizes (h .state) → Sizes (g .state)
+
+pub still-values : {h g : Held} → Still h g → (k : ℕ) → k < mostResults → (n : ℕ) → n ≤ resultSize → bytes (g .store) (resultAt k) n ≡ bytes (h .store) (resultAt k) n
+still-values s k p n q = s .below (resultAt k) n (omega (arith, p, q))
 
 -- a frame's payload of n bytes is there to be read, and nothing has gone out yet
 pub record Open (at : Micros) (n : ℕ) (w : World) : Type 0 where
@@ -59,9 +67,9 @@ pub record Open (at : Micros) (n : ℕ) (w : World) : Type 0 where
   pub time : at .0 ≤ latest
 
 pub data Hop : World → Pass → Type 0 where
-  ended : (w : World) (at : Micros) (st : StepStatus) → NoRead w st → Hop w (pass (onHeld w (ends (w .held) at st)))
+  ended : (w : World) (at : Micros) (st : StepStatus) → NotWell w st → Hop w (pass (onHeld w (ends (w .held) at st)))
   began : (w : World) (at : Micros) → at .0 ≤ latest → canGo (w .held .state) ≡ true → Hop w (pass (stepOnce w at))
-  meets : (w : World) (handle : ℕ) → Hop w (record { came = link-came handle ∷ []; to = met w handle })
+  meets : (w : World) (handle : ℕ) → w .held .state .counters .links < mostLinks → Hop w (record { came = link-came handle ∷ []; to = met w handle })
   parts : (w : World) → Hop w (record { came = link-went ∷ []; to = parted w })
   still : (w : World) (g : Held) → Still (w .held) g → Hop w (pass (onHeld w g))
   acted : (w : World) (at : Micros) (channel n : ℕ) → Open at n w → Sound 65 (onChannel w at channel n)
@@ -77,7 +85,7 @@ pub data Hops : World → List Pass → Type 0 where
 abbrev pub At : (at : Micros) {w : World} {p : Pass} → Hop w p → Type 0
 At at (ended w t st n) = t ≡ at
 At at (began w t l g) = t ≡ at
-At at (meets w handle) = Unit {0}
+At at (meets w handle few) = Unit {0}
 At at (parts w) = Unit {0}
 At at (still w g s) = Unit {0}
 At at (acted w t channel n o s) = t ≡ at

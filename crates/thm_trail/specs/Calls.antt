@@ -1,4 +1,4 @@
--- The ten calls of 01, and sequences of them. The right sides of `does` are those of the calls' contracts.
+-- The ten calls of 01 and the reader of 02, One, and sequences of them. The right sides of `does` are those of the calls' contracts.
 use Prim.Native.Nat.{ℕ}
 use mathlib.Core.Bool.{Bool}
 use mathlib.Core.List.{List, [], _∷_}
@@ -14,7 +14,7 @@ use Rattle.script_rules.specs.World.{Held}
 use Rattle.script_rules.specs.declared.Batch.{Batch}
 use Rattle.script_rules.specs.Outcome.{Outcome, Quiet, unsent}
 use Rattle.script_rules.specs.Batch.{gateBatch, pushSteps}
-use Rattle.script_rules.specs.Events.{onTimer, onConnected, onDisconnected}
+use Rattle.script_rules.specs.Events.{onTimer, gateConnected, onConnected, onDisconnected}
 use Rattle.radio_rules.specs.Hearing as radio
 use Rattle.link_rules.specs.Fragment.{gateFragment}
 use Rattle.link_rules.specs.Link.{onFragment}
@@ -24,6 +24,7 @@ pub data Reader : Type 0 where
   timerUs : Reader
   connectedHandle : Reader
   resultOf : ℕ → Reader
+  passedOn : ℕ → Reader
 
 -- a call, with all that its caller hands it but the state and the store; the output comes first where one is lent
 pub data Call : Type 0 where
@@ -102,7 +103,7 @@ run h (c ∷ cs) = run (left (does h c)) cs
 abbrev pub gateOf : Held → Call → ℕ
 gateOf h (batch out at b values) = gateBatch (h .state) (length (h .store)) (length out) at b (length values)
 gateOf h (timer out at) = gate (h .state) (length (h .store)) (length out) at
-gateOf h (connected out handle at) = gate (h .state) (length (h .store)) (length out) at
+gateOf h (connected out handle at) = gateConnected (h .state) (length (h .store)) (length out) at
 gateOf h (disconnected at) = gateQuiet (h .state) (length (h .store)) at
 gateOf h (advertising v) = radio.refusal (h .state) (length (h .store)) v
 gateOf h (scanResponse at a d) = radio.responseRefusal (h .state) (length (h .store)) at (length d)

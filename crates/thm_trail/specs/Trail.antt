@@ -15,7 +15,7 @@ use Rattle.script_rules.specs.BatchSteps.{steps}
 use Rattle.script_rules.specs.Waiting.{pushAll}
 use Rattle.script_rules.specs.Script.{canGo, stepOnce}
 use Rattle.script_rules.specs.Outcome as outcome
-use Rattle.script_rules.specs.Events.{timedOut, due, linked, isConnect, unlinked, goesOn, cutStatus}
+use Rattle.script_rules.specs.Events.{timedOut, due, withNewLink, isConnect, unlinked, goesOn, cutStatus}
 use Rattle.radio_rules.specs.Hearing as radio
 use Rattle.link_rules.specs.Payload.{payload}
 use Rattle.link_rules.specs.Channel.{onChannel}
@@ -61,7 +61,7 @@ timerTrail w at =
     pick (due r at) (thenOnward (onHeld w (ends (w .held) at (timedOut (r .step)))) at) []
 
 abbrev pub met : World → ℕ → World
-met w handle = onHeld w (onState (w .held) (withBearer (w .held .state) (linked handle)))
+met w handle = onHeld w (onState (w .held) (withNewLink (w .held .state) handle))
 
 unfoldable pub connectedTrail : World → ℕ → Micros → List Pass
 connectedTrail w handle at =

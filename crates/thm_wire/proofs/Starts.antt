@@ -126,7 +126,7 @@ module _ (m : ℕ) (k : Mtu m) (w : World) (at : Micros) where
   sends-linked e (Subscribe u indicate) = sends-subscribe indicate _
   sends-linked e (Write u response) = sends-write e response _
   sends-linked e (Read u) = sends-read _
-  sends-linked e (WaitNotification u ms) = nothing m (w .told)
+  sends-linked e (WaitNotification u ms age) = nothing m (w .told)
   sends-linked e (Wait ms) = nothing m (w .told)
   sends-linked e Disconnect = sends-disconnect
   sends-linked e (Capture enabled) = nothing m (w .told)

@@ -52,7 +52,7 @@ hop-out (began w at t g) s =
       sends = sends-start (onHeld w (takeStep (w .held))) at (mtu-of (w .held .state .bearer) (s .nearly .linked));
       room = omega (arith, s .budget, goes-on (w .held .state) g .some);
     })
-hop-out (meets w handle) s = silent (record { frames = refl; bytes = refl; out = refl })
+hop-out (meets w handle few) s = silent (record { frames = refl; bytes = refl; out = refl })
 hop-out (parts w) s = silent (record { frames = refl; bytes = refl; out = refl })
 hop-out (still w g q) s = silent (record { frames = refl; bytes = refl; out = refl })
 hop-out (acted w at channel n o q) s =

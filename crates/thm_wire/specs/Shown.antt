@@ -17,7 +17,6 @@ use Rattle.l2cap.specs.Frame.{Written, l2capFrame}
 use Rattle.l2cap.proofs.FrameLaws.{framed-bytes}
 use Rattle.att_pdu.specs.Pdu.{exchangeMtuReq}
 use Rattle.gatt_characteristics.specs.Characteristic.{upFrom}
-use Rattle.state.specs.Central.{withBearer}
 use Rattle.state.specs.Fresh.{freshCentral}
 use Rattle.state.specs.declared.Step.the-variants.{ExchangeMtu}
 use Rattle.state_rules.specs.Steps.{stepFits}
@@ -33,7 +32,7 @@ use Rattle.script_rules.specs.Start.{startLinked, start}
 use Rattle.script_rules.specs.Script.{advances, advance}
 use Rattle.script_rules.specs.Outcome.{Outcome, done, refused, unsent}
 use Rattle.script_rules.specs.Batch.{batchFits, countersFit, gateBatch, pushSteps}
-use Rattle.script_rules.specs.Events.{linked, connect, onConnected}
+use Rattle.script_rules.specs.Events.{withNewLink, gateConnected, connect, onConnected}
 use Rattle.thm_trail.specs.Calls.{Call, batch, connected, timer, does, left, fresh, run, done?}
 use Rattle.thm_trail.specs.Trail.{onwards, begins, goes}
 use Rattle.thm_wire.specs.Wire.{Frame, parse, asSent, sentAlong, sentBy}
@@ -54,15 +53,15 @@ module _ (store out : List ℕ) (s : length store ≡ storeSize) (o : length out
   comes = connected out 64 (at 1) ∷ []
 
   abbrev met : Held
-  met = record { state = withBearer freshCentral (linked 64); store = store }
+  met = record { state = withNewLink freshCentral 64; store = store }
 
   abbrev next : Call
   next = batch out (at 2) asks []
 
   -- the link is there
-  fresh-passes : gate freshCentral (length store) (length out) (at 1) ≡ 0
+  fresh-passes : gateConnected freshCentral (length store) (length out) (at 1) ≡ 0
   unfolding freshCentral firstRefusal fits countsFit all upFrom
-  fresh-passes = ap (λ (n : ℕ). gate freshCentral n (length out) (at 1)) s ∙ ap (λ (n : ℕ). gate freshCentral storeSize n (at 1)) o
+  fresh-passes = ap (λ (n : ℕ). gateConnected freshCentral n (length out) (at 1)) s ∙ ap (λ (n : ℕ). gateConnected freshCentral storeSize n (at 1)) o
 
   comes-is : run (fresh store) comes ≡ met
   unfolding freshCentral onConnected connect advance advances

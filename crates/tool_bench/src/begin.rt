@@ -80,7 +80,7 @@ pub fn idle() -> Core {
 }
 
 // n words from at on: the first, and each after it more than the one before.
-fn lay(tables: &mut [u64; 1056], at: usize, n: usize, first: u64, by: u64)
+fn lay(tables: &mut [u64; 1152], at: usize, n: usize, first: u64, by: u64)
     requires { ⌜ at + n ≤ tablesSize ⌝ }
 {
     let mut word = first;
@@ -94,7 +94,7 @@ fn lay(tables: &mut [u64; 1056], at: usize, n: usize, first: u64, by: u64)
 }
 
 // Every waiting step is the same.
-fn lay_steps(tables: &mut [u64; 1056], r: Row) {
+fn lay_steps(tables: &mut [u64; 1152], r: Row) {
     let step = r.step;
     words_step::put_step(tables, 0, step, r.len);
     let word = tables[words::STEP];
@@ -107,7 +107,7 @@ fn lay_steps(tables: &mut [u64; 1056], r: Row) {
     lay(tables, words::STEP_CONNECT, 64, connect, 0);
 }
 
-fn lay_known(tables: &mut [u64; 1056]) {
+fn lay_known(tables: &mut [u64; 1152]) {
     lay(tables, words::SERVICE_LOW, 32, UNLISTED.low, 0);
     lay(tables, words::SERVICE_HIGH, 32, UNLISTED.high, 0);
     lay(tables, words::SERVICE, 32, SERVICE, 0);
@@ -132,7 +132,7 @@ fn report_word(response: u8) -> u64 {
     REPORT + NO_RESPONSE
 }
 
-fn lay_heard(tables: &mut [u64; 1056], r: Row) {
+fn lay_heard(tables: &mut [u64; 1152], r: Row) {
     lay(tables, words::REPORT_WHO, 64, hear::key(r.first), 1);
     lay(tables, words::REPORT_AT, 64, 1, 0);
     lay(tables, words::REPORT, 64, report_word(r.response), 0);
@@ -140,7 +140,7 @@ fn lay_heard(tables: &mut [u64; 1056], r: Row) {
 }
 
 // All tables of a row's state.
-pub fn lay_tables(tables: &mut [u64; 1056], r: Row) {
+pub fn lay_tables(tables: &mut [u64; 1152], r: Row) {
     lay_steps(tables, r);
     lay(tables, words::RESULT_AT, 64, 0, 0);
     lay(tables, words::RESULT, 64, 0, 0);

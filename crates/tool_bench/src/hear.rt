@@ -41,7 +41,7 @@ pub fn number_of(x: AdvAction) -> usize {
 // They speak in turn, n times in all.
 pub fn round(
     core: Core,
-    tables: &mut [u64; 1056],
+    tables: &mut [u64; 1152],
     store: &mut [u8],
     n: u32,
     count: u32,

@@ -17,7 +17,7 @@ pub extern "C" fn lent_advertising(
     n: u32,
     row: u8,
     half: bool,
-    tables: &mut [u64; 1056],
+    tables: &mut [u64; 1152],
     store: &mut [u8],
     data: &[u8],
 ) -> u64 {
@@ -38,7 +38,7 @@ pub extern "C" fn lent_advertising(
 pub extern "C" fn lent_batches(
     n: u32,
     ends: bool,
-    tables: &mut [u64; 1056],
+    tables: &mut [u64; 1152],
     store: &mut [u8],
     out: &mut [u8],
     values: &[u8],
@@ -50,7 +50,7 @@ pub extern "C" fn lent_batches(
 #[no_mangle]
 pub extern "C" fn lent_timers(
     n: u32,
-    tables: &mut [u64; 1056],
+    tables: &mut [u64; 1152],
     store: &mut [u8],
     out: &mut [u8],
 ) -> u64 {
@@ -63,7 +63,7 @@ pub extern "C" fn lent_timers(
 #[no_mangle]
 pub extern "C" fn lent_links(
     n: u32,
-    tables: &mut [u64; 1056],
+    tables: &mut [u64; 1152],
     store: &mut [u8],
     out: &mut [u8],
 ) -> u64 {
@@ -77,7 +77,7 @@ pub extern "C" fn lent_fragments(
     n: u32,
     row: u8,
     start: bool,
-    tables: &mut [u64; 1056],
+    tables: &mut [u64; 1152],
     store: &mut [u8],
     out: &mut [u8],
     fragment: &[u8],

@@ -34,7 +34,7 @@ pub fn batch(ends: bool) -> Batch {
 pub fn batches(
     n: u32,
     ends: bool,
-    tables: &mut [u64; 1056],
+    tables: &mut [u64; 1152],
     store: &mut [u8],
     out: &mut [u8],
     values: &[u8],
@@ -56,7 +56,7 @@ pub fn batches(
 // n timer calls, the first at 1 ms and each 1 ms after the last.
 pub fn timers(
     core: Core,
-    tables: &mut [u64; 1056],
+    tables: &mut [u64; 1152],
     store: &mut [u8],
     out: &mut [u8],
     n: u32,
@@ -75,7 +75,7 @@ pub fn timers(
 }
 
 // n links on an idle state: each comes, and goes again.
-pub fn links(tables: &mut [u64; 1056], store: &mut [u8], out: &mut [u8], n: u32) -> u64 {
+pub fn links(tables: &mut [u64; 1152], store: &mut [u8], out: &mut [u8], n: u32) -> u64 {
     let mut c = begin::idle();
     let mut sum = 0;
     let mut i = 0;

@@ -1,6 +1,7 @@
 // What tells the loops' states apart.
 use crate::begin::UNLISTED;
 use att_pdu::op;
+use notifications::Age;
 use state::Counters;
 use state::Counts;
 use state::Step;
@@ -55,6 +56,7 @@ fn counters(notified: u64, wait_from: u64) -> Counters {
         refused_steps: 0,
         notified,
         wait_from,
+        links: 0,
     }
 }
 
@@ -141,6 +143,7 @@ const DISCOVERS: u8 = 3;
 pub const WAITS: Step = Step::WaitNotification {
     characteristic: UNLISTED,
     within_ms: LONG,
+    age: Age::Any,
 };
 
 fn talks(step: Step, pending: u8, waiting: usize, characteristics: usize, wait_from: u64) -> Row {

@@ -10,7 +10,7 @@ use tool_bench::row;
 #[no_mangle]
 pub extern "C" fn lent_mixed(
     n: u32,
-    tables: &mut [u64; 1056],
+    tables: &mut [u64; 1152],
     store: &mut [u8],
     out: &mut [u8],
     data: &[u8],

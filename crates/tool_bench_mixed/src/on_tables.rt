@@ -6,7 +6,7 @@ use tool_bench::told;
 
 pub fn rounds(
     core: Core,
-    tables: &mut [u64; 1056],
+    tables: &mut [u64; 1152],
     store: &mut [u8],
     out: &mut [u8],
     n: u32,

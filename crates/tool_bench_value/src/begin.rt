@@ -4,7 +4,7 @@ use tool_bench::begin;
 use tool_bench::row::Row;
 
 pub fn state(r: Row) -> State {
-    let mut tables = [0u64; 1056];
+    let mut tables = [0u64; 1152];
     begin::lay_tables(&mut tables, r);
     State {
         core: begin::core(r),

@@ -42,7 +42,7 @@ fn of_counters(h: u64, k: Counters) -> u64 {
     let a = more(h, k.next_index as u64);
     let b = more(a, k.refused_steps);
     let c = more(b, k.notified);
-    more(c, k.wait_from)
+    more(more(c, k.wait_from), k.links)
 }
 
 fn of_bearer(h: u64, b: Bearer) -> u64 {

@@ -1,6 +1,7 @@
 // The fields of a step and of a target, after a number for each case.
 use crate::more;
 use crate::more_of_flag;
+use notifications::Age;
 use state::Address;
 use state::Step;
 use state::Target;
@@ -25,6 +26,13 @@ fn of_target(h: u64, t: Target) -> u64 {
 
 fn of_millis(h: u64, case: u64, ms: Millis) -> u64 {
     more(more(h, case), ms.0 as u64)
+}
+
+fn of_age(h: u64, a: Age) -> u64 {
+    match a {
+        Age::Any => more(h, 1),
+        Age::Within(ms) => of_millis(h, 2, ms),
+    }
 }
 
 fn of_named(h: u64, case: u64, u: Uuid, x: bool) -> u64 {
@@ -52,7 +60,13 @@ fn of_naming(h: u64, step: Step) -> u64 {
         Step::WaitNotification {
             characteristic,
             within_ms,
-        } => of_named(of_millis(h, 9, within_ms), 9, characteristic, false),
+            age,
+        } => of_named(
+            of_age(of_millis(h, 9, within_ms), age),
+            9,
+            characteristic,
+            false,
+        ),
         _ => more(h, 4),
     }
 }

@@ -23,7 +23,7 @@ fn tell_bearer(to: &mut [u8], at: usize, b: Bearer, store: &[u8]) -> usize {
 
 // ---- the tables: the first count places of each, and none beyond its last
 
-fn tell_keys(tables: &[u64; 1056], count: usize, to: &mut [u8], at: usize) -> usize {
+fn tell_keys(tables: &[u64; 1152], count: usize, to: &mut [u8], at: usize) -> usize {
     let mut n = line::number(to, at, count as u64);
     let mut i = 0;
     while i < state_places::MAX_KEYS {
@@ -37,7 +37,7 @@ fn tell_keys(tables: &[u64; 1056], count: usize, to: &mut [u8], at: usize) -> us
     n
 }
 
-fn tell_queue(tables: &[u64; 1056], count: usize, to: &mut [u8], at: usize, store: &[u8]) -> usize {
+fn tell_queue(tables: &[u64; 1152], count: usize, to: &mut [u8], at: usize, store: &[u8]) -> usize {
     let mut n = line::named(to, at, b"waiting", count as u64);
     let mut i = 0;
     while i < state_places::MAX_STEPS {
@@ -52,7 +52,7 @@ fn tell_queue(tables: &[u64; 1056], count: usize, to: &mut [u8], at: usize, stor
 }
 
 fn tell_results(
-    tables: &[u64; 1056],
+    tables: &[u64; 1152],
     count: usize,
     to: &mut [u8],
     at: usize,
@@ -84,7 +84,7 @@ fn advertiser(x: Report) -> Advertiser {
 }
 
 fn tell_reports(
-    tables: &[u64; 1056],
+    tables: &[u64; 1152],
     count: usize,
     to: &mut [u8],
     at: usize,
@@ -110,7 +110,7 @@ fn tell_reports(
     n
 }
 
-fn tell_services(tables: &[u64; 1056], count: usize, to: &mut [u8], at: usize) -> usize {
+fn tell_services(tables: &[u64; 1152], count: usize, to: &mut [u8], at: usize) -> usize {
     let mut n = line::named(to, at, b"services", count as u64);
     let mut i = 0;
     while i < state_places::MAX_SERVICES {
@@ -125,7 +125,7 @@ fn tell_services(tables: &[u64; 1056], count: usize, to: &mut [u8], at: usize) -
 }
 
 // At most all places are in use.
-fn known_in(tables: &[u64; 1056], count: usize) -> Characteristics {
+fn known_in(tables: &[u64; 1152], count: usize) -> Characteristics {
     if count < state_places::MAX_CHARACTERISTICS {
         return words_characteristic::characteristics_of(tables, count);
     }
@@ -152,7 +152,7 @@ fn tell_characteristics(
 }
 
 fn tell_notifications(
-    tables: &[u64; 1056],
+    tables: &[u64; 1152],
     count: usize,
     to: &mut [u8],
     at: usize,
@@ -171,11 +171,41 @@ fn tell_notifications(
     n
 }
 
+// The link of each notification.
+fn tell_links_heard(tables: &[u64; 1152], count: usize, to: &mut [u8], at: usize) -> usize {
+    let mut n = line::number(to, at, count as u64);
+    let mut i = 0;
+    while i < state_places::MAX_NOTIFICATIONS {
+        if count <= i {
+            break;
+        }
+        let x = words_notification::notification_at(tables, i);
+        n = line::number(to, n, x.link);
+        i += 1;
+    }
+    n
+}
+
+// What each result names.
+fn tell_named(tables: &[u64; 1152], count: usize, to: &mut [u8], at: usize) -> usize {
+    let mut n = line::number(to, at, count as u64);
+    let mut i = 0;
+    while i < state_places::MAX_RESULTS {
+        if count <= i {
+            break;
+        }
+        let x = words_result::result_at(tables, i);
+        n = line::number(to, n, x.heard);
+        i += 1;
+    }
+    n
+}
+
 // ---- the parts
 
 fn tell_running(
     r: Running,
-    tables: &[u64; 1056],
+    tables: &[u64; 1152],
     keys: usize,
     to: &mut [u8],
     at: usize,
@@ -190,7 +220,7 @@ fn tell_running(
 }
 
 // What was asked for, and what came of it.
-fn tell_script(core: Core, tables: &[u64; 1056], to: &mut [u8], at: usize, store: &[u8]) -> usize {
+fn tell_script(core: Core, tables: &[u64; 1152], to: &mut [u8], at: usize, store: &[u8]) -> usize {
     let running = core.running;
     let counts = core.counts;
     let a = tell_running(running, tables, core.key_count, to, at, store);
@@ -199,7 +229,7 @@ fn tell_script(core: Core, tables: &[u64; 1056], to: &mut [u8], at: usize, store
 }
 
 // What was heard.
-fn tell_heard(core: Core, tables: &[u64; 1056], to: &mut [u8], at: usize, store: &[u8]) -> usize {
+fn tell_heard(core: Core, tables: &[u64; 1152], to: &mut [u8], at: usize, store: &[u8]) -> usize {
     let counts = core.counts;
     let a = tell_reports(tables, core.reports, to, at, store);
     let b = tell_services(tables, counts.services, to, a);
@@ -211,7 +241,7 @@ fn tell_heard(core: Core, tables: &[u64; 1056], to: &mut [u8], at: usize, store:
 
 pub fn tell_state(
     core: Core,
-    tables: &[u64; 1056],
+    tables: &[u64; 1152],
     to: &mut [u8],
     at: usize,
     store: &[u8],
@@ -222,4 +252,13 @@ pub fn tell_state(
     let b = tell_bearer(to, a, bearer, store);
     let c = tell_script(core, tables, to, b, store);
     tell_heard(core, tables, to, c, store)
+}
+
+// The count of links, and what is kept of them.
+pub fn tell_links(core: Core, tables: &[u64; 1152], to: &mut [u8], at: usize) -> usize {
+    let counters = core.counters;
+    let counts = core.counts;
+    let a = line::number(to, at, counters.links);
+    let b = tell_links_heard(tables, counts.notifications, to, a);
+    tell_named(tables, counts.results, to, b)
 }

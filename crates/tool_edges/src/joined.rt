@@ -1,6 +1,7 @@
 // A wait looks for its bytes in all that one handle notified, joined.
 use crate::known;
 use central::State;
+use notifications::Age;
 use state::Step;
 use state_readers::Given;
 use time::Micros;
@@ -18,6 +19,7 @@ const ELSEWHERE: [u8; 9] = [0x05, 0x00, 0x04, 0x00, 0x1B, 0x06, 0x00, 0x45, 0x45
 const WAIT: Step = Step::WaitNotification {
     characteristic: known::LEVEL,
     within_ms: Millis(1000),
+    age: Age::Any,
 };
 
 fn begun(bytes: &[u8], why: u8) {

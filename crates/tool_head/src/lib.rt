@@ -10,6 +10,8 @@ use att_pdu::err;
 use att_pdu::op;
 use l2cap::cid;
 
+pub mod uuids;
+
 // A frame's payload stands behind its length and its channel.
 const OPCODE_AT: usize = 4;
 

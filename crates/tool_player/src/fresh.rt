@@ -36,6 +36,7 @@ pub fn core() -> Core {
             refused_steps: 0,
             notified: 0,
             wait_from: 0,
+            links: 0,
         },
         counts: Counts {
             waiting: 0,
@@ -50,7 +51,7 @@ pub fn core() -> Core {
 }
 
 // The tables as they are before the first call.
-pub fn clear(tables: &mut [u64; 1056]) {
+pub fn clear(tables: &mut [u64; 1152]) {
     let mut i = 0;
     while i < words::SIZE {
         tables[i] = 0;

@@ -15,7 +15,7 @@ const ROOM: usize = 65_536;
 // The next record is read, played and answered.
 fn turn(
     core: Core,
-    tables: &mut [u64; 1056],
+    tables: &mut [u64; 1152],
     body: &mut [u8],
     store: &mut [u8],
     out: &mut [u8],
@@ -33,7 +33,7 @@ fn turn(
 }
 
 // A proved loop has to end, and nothing says that the input does: the turns are counted down from a number that no run uses up.
-fn run(tables: &mut [u64; 1056], body: &mut [u8], store: &mut [u8], out: &mut [u8], to: &mut [u8]) {
+fn run(tables: &mut [u64; 1152], body: &mut [u8], store: &mut [u8], out: &mut [u8], to: &mut [u8]) {
     let mut core = fresh::core();
     let mut turns = u64::MAX;
     while 0 < turns {
@@ -48,7 +48,7 @@ fn run(tables: &mut [u64; 1056], body: &mut [u8], store: &mut [u8], out: &mut [u
 }
 
 fn main() {
-    let mut tables = [0u64; 1056];
+    let mut tables = [0u64; 1152];
     let mut body = [0u8; record::MOST_BODY];
     let mut store = [0u8; state_places::STORE_SIZE];
     let mut out = [0u8; state_places::OUTPUT_SIZE];

@@ -70,7 +70,7 @@ fn only_reads(tag: u8) -> bool {
 
 fn read(
     core: Core,
-    tables: &[u64; 1056],
+    tables: &[u64; 1152],
     tag: u8,
     body: &[u8],
     store: &[u8],
@@ -85,6 +85,15 @@ fn read(
             let index = bytes_numbers::le32(body, 0);
             let given = state_readers::result(core, tables, store, index);
             tell::given(to, index, given, store)
+        }
+        record::LINKS => tell::links(to, core, tables),
+        record::PASSED_ON => {
+            let index = bytes_numbers::le32(body, 0);
+            tell::passed(
+                to,
+                state_readers::passed_on(core, tables, store, index),
+                store,
+            )
         }
         _ => tell::dumped(to, core, tables, store),
     }
@@ -101,14 +110,14 @@ fn quiet(core: Core, refusal: u8) -> Answer {
 }
 
 // The store and the output keep their bytes at a fresh state: no answer may depend on them.
-fn begin(tables: &mut [u64; 1056]) -> Answer {
+fn begin(tables: &mut [u64; 1152]) -> Answer {
     fresh::clear(tables);
     quiet(fresh::core(), 0)
 }
 
 fn push(
     core: Core,
-    tables: &mut [u64; 1056],
+    tables: &mut [u64; 1152],
     body: &[u8],
     store: &mut [u8],
     out: &mut [u8],
@@ -120,7 +129,7 @@ fn push(
 
 fn connect(
     core: Core,
-    tables: &mut [u64; 1056],
+    tables: &mut [u64; 1152],
     body: &[u8],
     store: &mut [u8],
     out: &mut [u8],
@@ -129,13 +138,13 @@ fn connect(
     script_events::on_connected(core, tables, store, out, handle, at_of(body))
 }
 
-fn disconnect(core: Core, tables: &mut [u64; 1056], body: &[u8], store: &mut [u8]) -> Answer {
+fn disconnect(core: Core, tables: &mut [u64; 1152], body: &[u8], store: &mut [u8]) -> Answer {
     let a = script_events::on_disconnected(core, tables, store, at_of(body));
     let left = a.core;
     quiet(left, a.refusal)
 }
 
-fn respond(core: Core, tables: &mut [u64; 1056], body: &[u8], store: &mut [u8]) -> Answer {
+fn respond(core: Core, tables: &mut [u64; 1152], body: &[u8], store: &mut [u8]) -> Answer {
     let random = is_set(body, record::RESPONSE_RANDOM_AT);
     let address = steps::address(body, RESPONSE_ADDRESS_AT, random);
     let heard = after(body, RESPONSE_DATA_AT);
@@ -146,7 +155,7 @@ fn respond(core: Core, tables: &mut [u64; 1056], body: &[u8], store: &mut [u8]) 
 
 fn gather(
     core: Core,
-    tables: &mut [u64; 1056],
+    tables: &mut [u64; 1152],
     body: &[u8],
     store: &mut [u8],
     out: &mut [u8],
@@ -158,7 +167,7 @@ fn gather(
 
 fn play(
     core: Core,
-    tables: &mut [u64; 1056],
+    tables: &mut [u64; 1152],
     tag: u8,
     body: &[u8],
     store: &mut [u8],
@@ -177,7 +186,7 @@ fn play(
 
 fn hear(
     core: Core,
-    tables: &mut [u64; 1056],
+    tables: &mut [u64; 1152],
     body: &[u8],
     store: &mut [u8],
     to: &mut [u8],
@@ -208,7 +217,7 @@ fn hear(
 // A record of this tag, whose body is the first len bytes.
 pub fn one_record(
     core: Core,
-    tables: &mut [u64; 1056],
+    tables: &mut [u64; 1152],
     tag: u8,
     len: usize,
     body: &[u8],

@@ -4,6 +4,7 @@ use state::Sent;
 use state_core::Core;
 use state_readers::Given;
 use state_readers::Handle;
+use state_readers::Passed;
 use state_readers::Timer;
 use tool_lines::line;
 use tool_traces::record;
@@ -39,9 +40,21 @@ pub fn given(to: &mut [u8], index: u32, g: Given, store: &[u8]) -> bool {
     line::end(to, m)
 }
 
-pub fn dumped(to: &mut [u8], core: Core, tables: &[u64; 1056], store: &[u8]) -> bool {
+pub fn dumped(to: &mut [u8], core: Core, tables: &[u64; 1152], store: &[u8]) -> bool {
     let n = line::text(to, 0, b"dump");
     let m = tool_dumps::tell_state(core, tables, to, n, store);
+    line::end(to, m)
+}
+
+pub fn links(to: &mut [u8], core: Core, tables: &[u64; 1152]) -> bool {
+    let n = line::text(to, 0, b"links");
+    let m = tool_dumps::tell_links(core, tables, to, n);
+    line::end(to, m)
+}
+
+pub fn passed(to: &mut [u8], p: Passed, store: &[u8]) -> bool {
+    let n = line::text(to, 0, b"passed_on");
+    let m = tool_rows::passed(to, n, p, store);
     line::end(to, m)
 }
 

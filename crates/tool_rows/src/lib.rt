@@ -2,6 +2,7 @@
 use gatt_characteristics::Cccd;
 use gatt_characteristics::Characteristic;
 use gatt_services::Service;
+use notifications::Age;
 use notifications::Notification;
 use radio_match::AdvAction;
 use state::Bearer;
@@ -15,6 +16,7 @@ use state::StepStatus;
 use state::Target;
 use state_readers::Given;
 use state_readers::Handle;
+use state_readers::Passed;
 use state_readers::Timer;
 use time::Micros;
 use time::Millis;
@@ -104,6 +106,17 @@ fn kind_uuid(to: &mut [u8], at: usize, kind: u8, u: Uuid) -> usize {
     line::uuid(to, n, u)
 }
 
+// Of an aged wait, two words more.
+fn age(to: &mut [u8], at: usize, a: Age) -> usize {
+    match a {
+        Age::Any => at,
+        Age::Within(t) => {
+            let n = line::word(to, at, b"aged");
+            millis(to, n, t)
+        }
+    }
+}
+
 // The value's bytes stand at a place of s.
 fn step(to: &mut [u8], at: usize, x: Step, s: &[u8], place: usize, len: u8) -> usize {
     match x {
@@ -147,10 +160,12 @@ fn step(to: &mut [u8], at: usize, x: Step, s: &[u8], place: usize, len: u8) -> u
         Step::WaitNotification {
             characteristic,
             within_ms,
+            age: oldest,
         } => {
             let n = kind_uuid(to, at, state_kinds::WAIT_NOTIFICATION, characteristic);
             let m = millis(to, n, within_ms);
-            bytes(to, m, s, place, len)
+            let k = bytes(to, m, s, place, len);
+            age(to, k, oldest)
         }
         Step::Wait { ms } => kind_millis(to, at, state_kinds::WAIT, ms),
         Step::Disconnect => byte(to, at, state_kinds::DISCONNECT),
@@ -396,6 +411,32 @@ pub fn given(to: &mut [u8], at: usize, index: u32, g: Given, s: &[u8]) -> usize 
             let n = taken(to, at);
             let m = ended(to, n, index, t, how);
             line::bytes_at(to, m, s, place, len)
+        }
+    }
+}
+
+// The notification that a result names; its value's bytes stand in s.
+pub fn passed(to: &mut [u8], at: usize, p: Passed, s: &[u8]) -> usize {
+    match p {
+        Passed::Refused(why) => byte(to, at, why),
+        Passed::Nothing => {
+            let n = taken(to, at);
+            none(to, n)
+        }
+        Passed::Is {
+            at: t,
+            link,
+            handle,
+            indication,
+            place,
+            len,
+        } => {
+            let n = taken(to, at);
+            let m = micros(to, n, t);
+            let k = line::number(to, m, link);
+            let j = half(to, k, handle);
+            let i = flag(to, j, indication);
+            line::bytes_at(to, i, s, place, len)
         }
     }
 }

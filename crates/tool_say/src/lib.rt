@@ -1,6 +1,8 @@
-// Words, numbers and bytes to standard output.
+// Words, numbers, times and bytes to standard output.
 use libc::STDOUT_FILENO;
 use uuid::Uuid;
+
+pub mod clock;
 
 pub fn text(s: &[u8]) {
     io::write_all(STDOUT_FILENO, s);
@@ -27,9 +29,13 @@ pub fn hex(n: u64, width: usize) {
     io::print_hex(STDOUT_FILENO, n, width);
 }
 
+fn space() {
+    text(b" ");
+}
+
 // A byte in hex, with a space before it.
 fn byte(b: u8) {
-    text(b" ");
+    space();
     hex(b as u64, 2);
 }
 
@@ -47,6 +53,15 @@ pub fn first(s: &[u8], n: usize) {
 
 pub fn bytes(s: &[u8]) {
     first(s, s.len());
+}
+
+// Spaces from a column up to another.
+pub fn spaces(from: usize, to: usize) {
+    let mut i = from;
+    while i < to {
+        space();
+        i += 1;
+    }
 }
 
 // The part of s from start on, of so many bytes; nothing where it is not there.

@@ -4,6 +4,7 @@ mod begun;
 
 use state_readers::Given;
 use state_readers::Handle;
+use state_readers::Passed;
 use state_readers::Timer;
 use time::Micros;
 use tool_bench::begin;
@@ -15,17 +16,17 @@ const NOW: Micros = Micros(1000);
 // ---- the tables, laid before a call
 
 #[no_mangle]
-pub extern "C" fn stack_lay_connecting(tables: &mut [u64; 1056]) {
+pub extern "C" fn stack_lay_connecting(tables: &mut [u64; 1152]) {
     begin::lay_tables(tables, begun::connecting());
 }
 
 #[no_mangle]
-pub extern "C" fn stack_lay_timed(tables: &mut [u64; 1056]) {
+pub extern "C" fn stack_lay_timed(tables: &mut [u64; 1152]) {
     begin::lay_tables(tables, row::timed());
 }
 
 #[no_mangle]
-pub extern "C" fn stack_lay_talking(tables: &mut [u64; 1056], row: u8) {
+pub extern "C" fn stack_lay_talking(tables: &mut [u64; 1152], row: u8) {
     begin::lay_tables(tables, row::talking(row));
 }
 
@@ -34,7 +35,7 @@ pub extern "C" fn stack_lay_talking(tables: &mut [u64; 1056], row: u8) {
 #[no_mangle]
 pub extern "C" fn stack_push_steps(
     checks: bool,
-    tables: &mut [u64; 1056],
+    tables: &mut [u64; 1152],
     store: &mut [u8],
     out: &mut [u8],
     values: &[u8],
@@ -47,7 +48,7 @@ pub extern "C" fn stack_push_steps(
 #[no_mangle]
 pub extern "C" fn stack_on_timer(
     checks: bool,
-    tables: &mut [u64; 1056],
+    tables: &mut [u64; 1152],
     store: &mut [u8],
     out: &mut [u8],
 ) -> u8 {
@@ -57,7 +58,7 @@ pub extern "C" fn stack_on_timer(
 #[no_mangle]
 pub extern "C" fn stack_on_connected(
     checks: bool,
-    tables: &mut [u64; 1056],
+    tables: &mut [u64; 1152],
     store: &mut [u8],
     out: &mut [u8],
 ) -> u8 {
@@ -65,7 +66,7 @@ pub extern "C" fn stack_on_connected(
 }
 
 #[no_mangle]
-pub extern "C" fn stack_on_disconnected(tables: &mut [u64; 1056], store: &mut [u8]) -> u8 {
+pub extern "C" fn stack_on_disconnected(tables: &mut [u64; 1152], store: &mut [u8]) -> u8 {
     let core = begin::core(row::talking(0));
     script_events::on_disconnected(core, tables, store, NOW).refusal
 }
@@ -73,7 +74,7 @@ pub extern "C" fn stack_on_disconnected(tables: &mut [u64; 1056], store: &mut [u
 #[no_mangle]
 pub extern "C" fn stack_on_fragment(
     row: u8,
-    tables: &mut [u64; 1056],
+    tables: &mut [u64; 1152],
     store: &mut [u8],
     out: &mut [u8],
     frame: &[u8],
@@ -84,7 +85,7 @@ pub extern "C" fn stack_on_fragment(
 
 #[no_mangle]
 pub extern "C" fn stack_on_advertising(
-    tables: &mut [u64; 1056],
+    tables: &mut [u64; 1152],
     store: &mut [u8],
     data: &[u8],
 ) -> u8 {
@@ -103,7 +104,7 @@ pub extern "C" fn stack_on_advertising(
 
 #[no_mangle]
 pub extern "C" fn stack_on_scan_response(
-    tables: &mut [u64; 1056],
+    tables: &mut [u64; 1152],
     store: &mut [u8],
     data: &[u8],
 ) -> u8 {
@@ -114,7 +115,7 @@ pub extern "C" fn stack_on_scan_response(
 // ---- the readers
 
 #[no_mangle]
-pub extern "C" fn stack_timer_us(tables: &[u64; 1056], store: &[u8]) -> u8 {
+pub extern "C" fn stack_timer_us(tables: &[u64; 1152], store: &[u8]) -> u8 {
     match state_readers::timer_us(begin::core(begun::connecting()), tables, store) {
         Timer::Refused(why) => why,
         Timer::Never => 0,
@@ -123,7 +124,7 @@ pub extern "C" fn stack_timer_us(tables: &[u64; 1056], store: &[u8]) -> u8 {
 }
 
 #[no_mangle]
-pub extern "C" fn stack_connected_handle(tables: &[u64; 1056], store: &[u8]) -> u8 {
+pub extern "C" fn stack_connected_handle(tables: &[u64; 1152], store: &[u8]) -> u8 {
     match state_readers::connected_handle(begin::core(begun::connecting()), tables, store) {
         Handle::Refused(why) => why,
         Handle::Absent => 0,
@@ -132,13 +133,29 @@ pub extern "C" fn stack_connected_handle(tables: &[u64; 1056], store: &[u8]) -> 
 }
 
 #[no_mangle]
-pub extern "C" fn stack_result(tables: &[u64; 1056], store: &[u8], index: u32) -> u8 {
+pub extern "C" fn stack_result(tables: &[u64; 1152], store: &[u8], index: u32) -> u8 {
     match state_readers::result(begin::core(begun::connecting()), tables, store, index) {
         Given::Refused(why) => why,
         Given::Nothing => 0,
         Given::Is {
             at: _,
             status: _,
+            place: _,
+            len: _,
+        } => 0,
+    }
+}
+
+#[no_mangle]
+pub extern "C" fn stack_passed_on(tables: &[u64; 1152], store: &[u8], index: u32) -> u8 {
+    match state_readers::passed_on(begin::core(begun::connecting()), tables, store, index) {
+        Passed::Refused(why) => why,
+        Passed::Nothing => 0,
+        Passed::Is {
+            at: _,
+            link: _,
+            handle: _,
+            indication: _,
             place: _,
             len: _,
         } => 0,

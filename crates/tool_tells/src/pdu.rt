@@ -1,5 +1,6 @@
 // What a frame is, in words: by its channel and, on the attribute channel, by its opcode.
-use att_pdu::err;
+use crate::codes;
+use crate::names;
 use att_pdu::op;
 
 // A frame is a length, a channel and a payload.
@@ -15,8 +16,21 @@ const BLAMED_AT: usize = BODY_AT + 1;
 
 const CODE_AT: usize = BODY_AT + 3;
 
+// What stands behind a handle, and behind the byte that tells how long an answer's entries are.
+const VALUE_AT: usize = BODY_AT + 2;
+
+const ENTRIES_AT: usize = BODY_AT + 1;
+
 fn byte(s: &[u8], at: usize) -> u8 {
     if at < s.len() { s[at] } else { 0 }
+}
+
+// The bytes from n on.
+fn after(s: &[u8], n: usize) -> &[u8] {
+    if s.len() < n {
+        return &s[0..0];
+    }
+    &s[n..]
 }
 
 // Words and the number of two bytes.
@@ -30,28 +44,90 @@ fn range(words: &[u8], s: &[u8]) {
     number(b" to ", s, END_AT);
 }
 
-fn code(x: u8) {
-    match x {
-        err::INVALID_HANDLE => tool_say::text(b"no such handle"),
-        err::REQUEST_NOT_SUPPORTED => tool_say::text(b"no such request"),
-        err::ATTRIBUTE_NOT_FOUND => tool_say::text(b"nothing more there"),
-        _ => tool_say::text(b"another"),
+fn error(s: &[u8]) {
+    tool_say::text(b"an ");
+    codes::att_error(byte(s, CODE_AT));
+    number(b", at handle ", s, BLAMED_AT);
+}
+
+// ---- the entries of an answer
+
+// Start, end and UUID.
+fn service(e: &[u8]) {
+    tool_say::text(b": ");
+    names::carried(after(e, 4));
+    number(b", handles ", e, 0);
+    number(b" to ", e, 2);
+}
+
+// Declaration, properties, the handle of the value, UUID.
+fn characteristic(e: &[u8]) {
+    tool_say::text(b": ");
+    names::carried(after(e, 5));
+    number(b", value at handle ", e, 3);
+}
+
+// Handle and UUID.
+fn descriptor(e: &[u8]) {
+    tool_say::text(b": ");
+    names::carried(after(e, 2));
+    number(b", handle ", e, 0);
+}
+
+fn entry(opcode: u8, e: &[u8]) {
+    match opcode {
+        op::READ_BY_GROUP_TYPE_RSP => service(e),
+        op::READ_BY_TYPE_RSP => characteristic(e),
+        _ => descriptor(e),
     }
 }
 
-fn error(s: &[u8]) {
-    tool_say::text(b"an error: ");
-    code(byte(s, CODE_AT));
-    number(b", handle ", s, BLAMED_AT);
+// The entries, of so many bytes each. A remainder is skipped.
+fn entries(opcode: u8, body: &[u8], width: usize) {
+    if width == 0 {
+        return;
+    }
+    let mut i: usize = 0;
+    while width <= body.len() - i {
+        let next = i + width;
+        entry(opcode, &body[i..next]);
+        i = next;
+    }
+}
+
+// An answer tells how long its entries are.
+fn listing(words: &[u8], s: &[u8], opcode: u8) {
+    tool_say::text(words);
+    entries(opcode, after(s, ENTRIES_AT), byte(s, BODY_AT) as usize);
+}
+
+// Descriptors have UUIDs of 2 bytes, or of 16 (Core Vol 3 Part F 3.4.3.2).
+fn descriptors(s: &[u8], opcode: u8) {
+    tool_say::text(b"descriptors");
+    let width = if byte(s, BODY_AT) == 1 { 4 } else { 18 };
+    entries(opcode, after(s, ENTRIES_AT), width);
+}
+
+// ---- the rest
+
+fn notified(words: &[u8], s: &[u8]) {
+    number(words, s, BODY_AT);
+    tool_say::text(b", value");
+    tool_say::bytes(after(s, VALUE_AT));
+}
+
+fn read(s: &[u8]) {
+    let n = after(s, BODY_AT).len();
+    tool_say::told(b"a value of ", n as u64, b" bytes");
 }
 
 // The answer to a read or a write, a notification or an indication.
 fn value(s: &[u8], opcode: u8) {
     match opcode {
-        op::READ_RSP => tool_say::text(b"a value read"),
+        op::READ_RSP => read(s),
         op::WRITE_RSP => tool_say::text(b"a write response"),
-        op::HANDLE_VALUE_NTF => number(b"a notification on handle ", s, BODY_AT),
-        op::HANDLE_VALUE_IND => number(b"an indication on handle ", s, BODY_AT),
+        op::HANDLE_VALUE_NTF => notified(b"a notification on handle ", s),
+        op::HANDLE_VALUE_IND => notified(b"an indication on handle ", s),
         _ => tool_say::text(b"an ATT PDU"),
     }
 }
@@ -61,9 +137,9 @@ fn answer(s: &[u8], opcode: u8) {
     match opcode {
         op::ERROR_RSP => error(s),
         op::EXCHANGE_MTU_RSP => number(b"an MTU response, ", s, BODY_AT),
-        op::FIND_INFORMATION_RSP => tool_say::text(b"descriptors"),
-        op::READ_BY_TYPE_RSP => tool_say::text(b"characteristics"),
-        op::READ_BY_GROUP_TYPE_RSP => tool_say::text(b"services"),
+        op::FIND_INFORMATION_RSP => descriptors(s, opcode),
+        op::READ_BY_TYPE_RSP => listing(b"characteristics", s, opcode),
+        op::READ_BY_GROUP_TYPE_RSP => listing(b"services", s, opcode),
         _ => value(s, opcode),
     }
 }

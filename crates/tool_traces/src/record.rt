@@ -26,6 +26,10 @@ pub const RESULT: u8 = 10;
 
 pub const DUMP: u8 = 11;
 
+pub const LINKS: u8 = 12;
+
+pub const PASSED_ON: u8 = 13;
+
 // A tag, and a length of 4 bytes.
 const HEADER: usize = 5;
 
@@ -88,6 +92,8 @@ fn size_of(tag: u8) -> Size {
         CONNECTED_HANDLE => Size::Within(0, 0),
         RESULT => Size::Within(4, 4),
         DUMP => Size::Within(0, 0),
+        LINKS => Size::Within(0, 0),
+        PASSED_ON => Size::Within(4, 4),
         _ => Size::Unknown,
     }
 }

@@ -5,6 +5,7 @@ ghost use lib.ListN.{length};
 use crate::record;
 use crate::record::Bad;
 use crate::record::Shape;
+use notifications::Age;
 use script_rules::Batch;
 use script_rules::Placed;
 use state::Address;
@@ -36,6 +37,8 @@ const MS_AT: usize = 4;
 const INTERVAL_AT: usize = 8;
 
 const MTU_AT: usize = 8;
+
+const AGE_AT: usize = 8;
 
 const LATENCY_AT: usize = 10;
 
@@ -85,6 +88,7 @@ fn is_good_step(r: &[u8]) -> bool {
         state_kinds::CONNECT => is_good_target(r),
         state_kinds::SUBSCRIBE => record::is_flag(r, FLAG_AT),
         state_kinds::WRITE => record::is_flag(r, FLAG_AT),
+        state_kinds::WAIT_NOTIFICATION => record::is_flag(r, FLAG_AT),
         state_kinds::CAPTURE => record::is_flag(r, FLAG_AT),
         state_kinds::CAPTURE_SECRETS => record::is_flag(r, FLAG_AT),
         kind => kind < state_kinds::CAPTURE,
@@ -171,6 +175,14 @@ fn connect(r: &[u8]) -> Step {
     }
 }
 
+// The age of a wait, if its flag says that it has one.
+fn age(r: &[u8]) -> Age {
+    if record::byte(r, FLAG_AT) == 1 {
+        return Age::Within(Millis(bytes_numbers::le32(r, AGE_AT)));
+    }
+    Age::Any
+}
+
 fn step_of(r: &[u8]) -> Step {
     let ms = Millis(bytes_numbers::le32(r, MS_AT));
     let uuid = Uuid::from_128(r, UUID_AT);
@@ -197,6 +209,7 @@ fn step_of(r: &[u8]) -> Step {
         state_kinds::WAIT_NOTIFICATION => Step::WaitNotification {
             characteristic: uuid,
             within_ms: ms,
+            age: age(r),
         },
         state_kinds::WAIT => Step::Wait { ms },
         state_kinds::DISCONNECT => Step::Disconnect,

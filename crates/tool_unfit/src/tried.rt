@@ -46,7 +46,7 @@ fn one_step() -> Batch {
 }
 
 // The tables as they are made, before each call.
-fn core_again(m: &[u64], tables: &mut [u64; 1056], before: &[u64; 1056]) -> Core {
+fn core_again(m: &[u64], tables: &mut [u64; 1152], before: &[u64; 1152]) -> Core {
     tables::restore(tables, before);
     core_of(m)
 }
@@ -55,8 +55,8 @@ fn core_again(m: &[u64], tables: &mut [u64; 1056], before: &[u64; 1056]) -> Core
 fn loud(
     m: &mut [u64],
     a: Answer,
-    tables: &[u64; 1056],
-    before: &[u64; 1056],
+    tables: &[u64; 1152],
+    before: &[u64; 1152],
     store: &[u8],
     out: &[u8],
 ) {
@@ -70,8 +70,8 @@ fn quiet(
     m: &mut [u64],
     why: u8,
     core: Core,
-    tables: &[u64; 1056],
-    before: &[u64; 1056],
+    tables: &[u64; 1152],
+    before: &[u64; 1152],
     store: &[u8],
 ) {
     score::read(m, why, store);
@@ -80,8 +80,8 @@ fn quiet(
 
 fn push(
     m: &mut [u64],
-    tables: &mut [u64; 1056],
-    before: &[u64; 1056],
+    tables: &mut [u64; 1152],
+    before: &[u64; 1152],
     store: &mut [u8],
     out: &mut [u8],
 ) {
@@ -92,8 +92,8 @@ fn push(
 
 fn time_passes(
     m: &mut [u64],
-    tables: &mut [u64; 1056],
-    before: &[u64; 1056],
+    tables: &mut [u64; 1152],
+    before: &[u64; 1152],
     store: &mut [u8],
     out: &mut [u8],
 ) {
@@ -104,8 +104,8 @@ fn time_passes(
 
 fn connect(
     m: &mut [u64],
-    tables: &mut [u64; 1056],
-    before: &[u64; 1056],
+    tables: &mut [u64; 1152],
+    before: &[u64; 1152],
     store: &mut [u8],
     out: &mut [u8],
 ) {
@@ -116,8 +116,8 @@ fn connect(
 
 fn fragment(
     m: &mut [u64],
-    tables: &mut [u64; 1056],
-    before: &[u64; 1056],
+    tables: &mut [u64; 1152],
+    before: &[u64; 1152],
     store: &mut [u8],
     out: &mut [u8],
 ) {
@@ -127,20 +127,20 @@ fn fragment(
     loud(m, a, tables, before, store, out);
 }
 
-fn disconnect(m: &mut [u64], tables: &mut [u64; 1056], before: &[u64; 1056], store: &mut [u8]) {
+fn disconnect(m: &mut [u64], tables: &mut [u64; 1152], before: &[u64; 1152], store: &mut [u8]) {
     let core = core_again(m, tables, before);
     let a = script_events::on_disconnected(core, tables, store, AT);
     quiet(m, a.refusal, a.core, tables, before, store);
 }
 
-fn advertise(m: &mut [u64], tables: &mut [u64; 1056], before: &[u64; 1056], store: &mut [u8]) {
+fn advertise(m: &mut [u64], tables: &mut [u64; 1152], before: &[u64; 1152], store: &mut [u8]) {
     let data = DATA;
     let core = core_again(m, tables, before);
     let a = radio_calls::on_advertising(core, tables, store, AT, 37, ADV_IND, HEARD, &data, false);
     quiet(m, a.refusal, a.core, tables, before, store);
 }
 
-fn respond(m: &mut [u64], tables: &mut [u64; 1056], before: &[u64; 1056], store: &mut [u8]) {
+fn respond(m: &mut [u64], tables: &mut [u64; 1152], before: &[u64; 1152], store: &mut [u8]) {
     let data = DATA;
     let core = core_again(m, tables, before);
     let a = radio_calls::on_scan_response(core, tables, store, AT, HEARD, &data);
@@ -177,17 +177,17 @@ fn result_refusal(x: Given) -> u8 {
     }
 }
 
-fn read_timer(m: &mut [u64], tables: &[u64; 1056], store: &[u8]) {
+fn read_timer(m: &mut [u64], tables: &[u64; 1152], store: &[u8]) {
     let why = timer_refusal(state_readers::timer_us(core_of(m), tables, store));
     score::read(m, why, store);
 }
 
-fn read_handle(m: &mut [u64], tables: &[u64; 1056], store: &[u8]) {
+fn read_handle(m: &mut [u64], tables: &[u64; 1152], store: &[u8]) {
     let why = handle_refusal(state_readers::connected_handle(core_of(m), tables, store));
     score::read(m, why, store);
 }
 
-fn read_result(m: &mut [u64], tables: &[u64; 1056], store: &[u8]) {
+fn read_result(m: &mut [u64], tables: &[u64; 1152], store: &[u8]) {
     let why = result_refusal(state_readers::result(core_of(m), tables, store, 0));
     score::read(m, why, store);
 }
@@ -195,8 +195,8 @@ fn read_result(m: &mut [u64], tables: &[u64; 1056], store: &[u8]) {
 // The calls that may send.
 fn with_output(
     m: &mut [u64],
-    tables: &mut [u64; 1056],
-    before: &[u64; 1056],
+    tables: &mut [u64; 1152],
+    before: &[u64; 1152],
     store: &mut [u8],
     out: &mut [u8],
 ) {
@@ -207,7 +207,7 @@ fn with_output(
 }
 
 // The others.
-fn without_output(m: &mut [u64], tables: &mut [u64; 1056], before: &[u64; 1056], store: &mut [u8]) {
+fn without_output(m: &mut [u64], tables: &mut [u64; 1152], before: &[u64; 1152], store: &mut [u8]) {
     disconnect(m, tables, before, store);
     advertise(m, tables, before, store);
     respond(m, tables, before, store);

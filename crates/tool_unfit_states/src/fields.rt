@@ -61,17 +61,22 @@ pub const DECLARATION: usize = 26;
 
 pub const NOTIFICATION_LEN: usize = 27;
 
+pub const NOTIFICATION_LINK: usize = 28;
+
 // Not 0: every spare bit of the words is set; every word of a dead place is this number.
-pub const SPARE: usize = 28;
+pub const SPARE: usize = 29;
 
-pub const DEAD: usize = 29;
+pub const DEAD: usize = 30;
 
-pub const FIELDS: u64 = 30;
+// How many links were counted.
+pub const LINKS: usize = 31;
+
+pub const FIELDS: u64 = 32;
 
 // The word of a field at a place; a field of no table has one place alone.
 pub fn spot(field: usize, place: usize) -> usize {
-    let first = field % 32 * 64;
-    if (field < WAITING_LEN) | (NOTIFICATION_LEN < field) {
+    let first = field % 64 * 64;
+    if (field < WAITING_LEN) | (NOTIFICATION_LINK < field) {
         return first;
     }
     first + place % 64

@@ -15,17 +15,17 @@ pub mod tables;
 use state_core::Core;
 
 // Of one state.
-const WORDS: usize = 2048;
+const WORDS: usize = 4096;
 
 // Where those of the row begin, those that rows begin with, and what was got.
-const ROW: usize = 2048;
+const ROW: usize = WORDS;
 
-const BASE: usize = 4096;
+const BASE: usize = 2 * WORDS;
 
-const SCORE: usize = 6144;
+const SCORE: usize = 3 * WORDS;
 
 // Of a sheet.
-pub const SHEET: usize = 6184;
+pub const SHEET: usize = SCORE + 40;
 
 // The word at i, 0 where there is none.
 fn at(m: &[u64], i: usize) -> u64 {
@@ -57,7 +57,7 @@ pub fn core_of(m: &[u64]) -> Core {
 }
 
 // Its tables.
-pub fn lay_tables(m: &[u64], tables: &mut [u64; 1056]) {
+pub fn lay_tables(m: &[u64], tables: &mut [u64; 1152]) {
     tables::lay(tables, m);
     spoilt::set_dead(tables, m);
     spoilt::set_spare(tables, m);
@@ -65,7 +65,7 @@ pub fn lay_tables(m: &[u64], tables: &mut [u64; 1056]) {
 
 // Whether it is fit: with a store of the right size nothing else refuses a call that reads.
 fn is_fit(m: &[u64]) -> bool {
-    let mut tables = [0u64; 1056];
+    let mut tables = [0u64; 1152];
     lay_tables(m, &mut tables);
     let why = state_fit::gate_reader(core_of(m), &tables, state_places::STORE_SIZE);
     why == state_refusals::refusal::ACCEPTED

@@ -40,7 +40,7 @@ fn find(names: &[u8], s: &[u8], from: usize, to: usize) -> usize {
 
 pub fn of(s: &[u8], from: usize, to: usize) -> usize {
     find(
-        b"waiting results services characteristics notifications reports keys next_index refused_steps notified wait_from held mtu pending present deadline len phase active dated step step_mtu waiting_len waiting_step waiting_mtu result_len declaration notification_len spare dead seed fit unfit given random base sum ",
+        b"waiting results services characteristics notifications reports keys next_index refused_steps notified wait_from held mtu pending present deadline len phase active dated step step_mtu waiting_len waiting_step waiting_mtu result_len declaration notification_len notification_link spare dead links seed fit unfit given random base sum ",
         s,
         from,
         to,

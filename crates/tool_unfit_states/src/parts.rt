@@ -28,6 +28,7 @@ fn counters(m: &[u64]) -> Counters {
         refused_steps: number(m, fields::REFUSED_STEPS),
         notified: number(m, fields::NOTIFIED),
         wait_from: number(m, fields::WAIT_FROM),
+        links: number(m, fields::LINKS),
     }
 }
 

@@ -8,8 +8,8 @@ const MODULUS: u64 = 2_147_483_647;
 
 const FACTOR: u64 = 48_271;
 
-// Field 30 of the row.
-const SEED: usize = 3968;
+// The field behind the last, in the row.
+const SEED: usize = 6144;
 
 // The next number after x.
 fn next(x: u64) -> u64 {

@@ -12,17 +12,17 @@ use crate::random;
 use crate::score;
 
 // What a row says of its states, by the numbers of the names.
-const FIT: usize = 31;
+const FIT: usize = 33;
 
-const UNFIT: usize = 32;
+const UNFIT: usize = 34;
 
-const GIVEN: usize = 33;
+const GIVEN: usize = 35;
 
-const RANDOM: usize = 34;
+const RANDOM: usize = 36;
 
-const BASE: usize = 35;
+const BASE: usize = 37;
 
-const SUM: usize = 36;
+const SUM: usize = 38;
 
 // And what it is where it speaks of none.
 const EMPTY: usize = 100;

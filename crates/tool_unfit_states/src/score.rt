@@ -110,7 +110,7 @@ pub fn tell(m: &mut [u64]) {
 }
 
 // Before the calls on the state.
-pub fn begin(m: &mut [u64], tables: &[u64; 1056]) {
+pub fn begin(m: &mut [u64], tables: &[u64; 1152]) {
     raise(m, CALLED, 1);
     put(m, BEFORE, tool_digest::of_state(core_of(m), tables));
 }
@@ -123,7 +123,7 @@ pub fn read(m: &mut [u64], refusal: u8, store: &[u8]) {
 }
 
 // The core that a call gave back, and the tables that it left, which were others before.
-pub fn left(m: &mut [u64], core: Core, tables: &[u64; 1056], before: &[u64; 1056]) {
+pub fn left(m: &mut [u64], core: Core, tables: &[u64; 1152], before: &[u64; 1152]) {
     let h = at(m, BEFORE);
     count(m, STATE, tool_digest::of_state(core, tables) == h);
     count(m, WORDS, tables::are_same(tables, before));

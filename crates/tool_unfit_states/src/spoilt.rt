@@ -26,7 +26,7 @@ fn of_first(kind: u64) -> u64 {
         2 => 0x0000_FFFF_FFFF_FF00,
         5 => 0xFFFF_FFFF_FFFF_FE00,
         6 => 0xFF00_FFFF_FFFF_FE00,
-        8 => 0xFF00_0000_0000_FF00,
+        8 => 0xFF00_0000_0000_FE00,
         9 => 0xFFFF_0000_0000_FF00,
         11 => 0xFFFF_FFFF_FFFF_FE00,
         12 => 0xFFFF_FFFF_FFFF_FE00,
@@ -45,12 +45,12 @@ fn of_connect(kind: u64) -> u64 {
 }
 
 // Bits that are 0 are set in the word at i.
-fn set(tables: &mut [u64; 1056], i: usize, bits: u64) {
+fn set(tables: &mut [u64; 1152], i: usize, bits: u64) {
     let word = std::num::wrapping_add_u64(at(tables, i), bits);
     put(tables, i, word);
 }
 
-fn set_step(tables: &mut [u64; 1056], place: usize) {
+fn set_step(tables: &mut [u64; 1152], place: usize) {
     let i = place % 64;
     let kind = at(tables, words::STEP + i) % 256;
     set(tables, words::STEP + i, of_first(kind));
@@ -60,7 +60,7 @@ fn set_step(tables: &mut [u64; 1056], place: usize) {
 }
 
 // At a place of the tables with 64.
-fn set_wide(tables: &mut [u64; 1056], place: usize) {
+fn set_wide(tables: &mut [u64; 1152], place: usize) {
     let i = place % 64;
     set_step(tables, i);
     set(tables, words::RESULT + i, RESULT);
@@ -69,13 +69,13 @@ fn set_wide(tables: &mut [u64; 1056], place: usize) {
 }
 
 // At a place of those with 32.
-fn set_narrow(tables: &mut [u64; 1056], place: usize) {
+fn set_narrow(tables: &mut [u64; 1152], place: usize) {
     let i = place % 32;
     set(tables, words::SERVICE + i, SERVICE);
     set(tables, words::NOTIFICATION + i, NOTIFICATION);
 }
 
-fn set_all(tables: &mut [u64; 1056]) {
+fn set_all(tables: &mut [u64; 1152]) {
     let mut i = 0;
     while i < 64 {
         set_wide(tables, i);
@@ -87,14 +87,14 @@ fn set_all(tables: &mut [u64; 1056]) {
 }
 
 // Every spare bit, if the sheet says so. A place that was given a number whole has none left.
-pub fn set_spare(tables: &mut [u64; 1056], m: &[u64]) {
+pub fn set_spare(tables: &mut [u64; 1152], m: &[u64]) {
     if (fields::number(m, fields::SPARE) != 0) & (fields::number(m, fields::DEAD) == 0) {
         set_all(tables);
     }
 }
 
 // One row of words, of which the first count are alive.
-fn kill(tables: &mut [u64; 1056], row: usize, size: usize, count: usize, word: u64) {
+fn kill(tables: &mut [u64; 1152], row: usize, size: usize, count: usize, word: u64) {
     let mut i = 0;
     while i < size {
         if count <= i {
@@ -104,14 +104,14 @@ fn kill(tables: &mut [u64; 1056], row: usize, size: usize, count: usize, word: u
     }
 }
 
-fn kill_steps(tables: &mut [u64; 1056], count: usize, word: u64) {
+fn kill_steps(tables: &mut [u64; 1152], count: usize, word: u64) {
     kill(tables, words::STEP, 64, count, word);
     kill(tables, words::STEP_LOW, 64, count, word);
     kill(tables, words::STEP_HIGH, 64, count, word);
     kill(tables, words::STEP_CONNECT, 64, count, word);
 }
 
-fn kill_known(tables: &mut [u64; 1056], m: &[u64], word: u64) {
+fn kill_known(tables: &mut [u64; 1152], m: &[u64], word: u64) {
     let services = fields::count(m, fields::SERVICES);
     let count = fields::count(m, fields::CHARACTERISTICS);
     kill(tables, words::SERVICE_LOW, 32, services, word);
@@ -122,7 +122,7 @@ fn kill_known(tables: &mut [u64; 1056], m: &[u64], word: u64) {
     kill(tables, words::CHARACTERISTIC, 64, count, word);
 }
 
-fn kill_heard(tables: &mut [u64; 1056], m: &[u64], word: u64) {
+fn kill_heard(tables: &mut [u64; 1152], m: &[u64], word: u64) {
     let reports = fields::count(m, fields::REPORTS);
     kill(tables, words::REPORT_WHO, 64, reports, word);
     kill(tables, words::REPORT_AT, 64, reports, word);
@@ -136,17 +136,19 @@ fn kill_heard(tables: &mut [u64; 1056], m: &[u64], word: u64) {
     );
 }
 
-fn kill_kept(tables: &mut [u64; 1056], m: &[u64], word: u64) {
+fn kill_kept(tables: &mut [u64; 1152], m: &[u64], word: u64) {
     let results = fields::count(m, fields::RESULTS);
     let notifications = fields::count(m, fields::NOTIFICATIONS);
     kill(tables, words::RESULT_AT, 64, results, word);
     kill(tables, words::RESULT, 64, results, word);
+    kill(tables, words::RESULT_HEARD, 64, results, word);
     kill(tables, words::NOTIFICATION_AT, 32, notifications, word);
     kill(tables, words::NOTIFICATION, 32, notifications, word);
+    kill(tables, words::NOTIFICATION_LINK, 32, notifications, word);
 }
 
 // Every word of a dead place, if the sheet says so.
-pub fn set_dead(tables: &mut [u64; 1056], m: &[u64]) {
+pub fn set_dead(tables: &mut [u64; 1152], m: &[u64]) {
     let word = fields::number(m, fields::DEAD);
     if word == 0 {
         return;

@@ -1,5 +1,6 @@
 // A step of each kind, by its place in `Step`.
 use crate::fields;
+use notifications::Age;
 use state::Step;
 use state::Target;
 use time::Millis;
@@ -33,6 +34,7 @@ fn plain_step(kind: u64) -> Step {
         8 => Step::WaitNotification {
             characteristic: NAMED,
             within_ms: SHORT,
+            age: Age::Any,
         },
         9 => Step::Wait { ms: SHORT },
         10 => Step::Disconnect,

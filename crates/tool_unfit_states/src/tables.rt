@@ -11,13 +11,13 @@ const PROPERTIES: u64 = 0x08;
 const HANDLES: u64 = 0x0001_0001_0000_0000;
 
 // A word goes to its place, if there is one.
-pub fn put(tables: &mut [u64; 1056], i: usize, word: u64) {
+pub fn put(tables: &mut [u64; 1152], i: usize, word: u64) {
     if i < words::SIZE {
         tables[i] = word;
     }
 }
 
-pub fn at(tables: &[u64; 1056], i: usize) -> u64 {
+pub fn at(tables: &[u64; 1152], i: usize) -> u64 {
     if i < words::SIZE {
         return tables[i];
     }
@@ -34,14 +34,14 @@ fn length(m: &[u64], field: usize, place: usize) -> u64 {
 }
 
 // The characteristic at a place.
-fn lay_known(tables: &mut [u64; 1056], m: &[u64], place: usize) {
+fn lay_known(tables: &mut [u64; 1152], m: &[u64], place: usize) {
     let i = place % 64;
     put(tables, words::CHARACTERISTIC_LOW + i, steps::NAMED.low);
     put(tables, words::CHARACTERISTIC_HIGH + i, steps::NAMED.high);
     put(tables, words::CHARACTERISTIC + i, characteristic(m, i));
 }
 
-fn lay_step(tables: &mut [u64; 1056], m: &[u64], place: usize) {
+fn lay_step(tables: &mut [u64; 1152], m: &[u64], place: usize) {
     let i = place % 32;
     let kind = fields::placed(m, fields::WAITING_STEP, i);
     let step = steps::step_by(kind, fields::placed(m, fields::WAITING_MTU, i));
@@ -50,7 +50,7 @@ fn lay_step(tables: &mut [u64; 1056], m: &[u64], place: usize) {
 }
 
 // At one place of each table but the characteristics'; services and reports have 0 everywhere.
-fn lay_at(tables: &mut [u64; 1056], m: &[u64], place: usize) {
+fn lay_at(tables: &mut [u64; 1152], m: &[u64], place: usize) {
     let i = place % 32;
     lay_step(tables, m, i);
     put(tables, words::RESULT + i, length(m, fields::RESULT_LEN, i));
@@ -59,10 +59,15 @@ fn lay_at(tables: &mut [u64; 1056], m: &[u64], place: usize) {
         words::NOTIFICATION + i,
         length(m, fields::NOTIFICATION_LEN, i),
     );
+    put(
+        tables,
+        words::NOTIFICATION_LINK + i,
+        fields::placed(m, fields::NOTIFICATION_LINK, i),
+    );
 }
 
 // The tables, which are 0, get what the words of the sheet say.
-pub fn lay(tables: &mut [u64; 1056], m: &[u64]) {
+pub fn lay(tables: &mut [u64; 1152], m: &[u64]) {
     let mut i = 0;
     while i < 64 {
         lay_known(tables, m, i);
@@ -74,7 +79,7 @@ pub fn lay(tables: &mut [u64; 1056], m: &[u64]) {
 }
 
 // With no way out of the loop, since it goes fast then.
-pub fn are_same(tables: &[u64; 1056], before: &[u64; 1056]) -> bool {
+pub fn are_same(tables: &[u64; 1152], before: &[u64; 1152]) -> bool {
     let mut same = true;
     let mut i = 0;
     while i < words::SIZE {
@@ -85,7 +90,7 @@ pub fn are_same(tables: &[u64; 1056], before: &[u64; 1056]) -> bool {
 }
 
 // The tables as they were.
-pub fn restore(tables: &mut [u64; 1056], before: &[u64; 1056]) {
+pub fn restore(tables: &mut [u64; 1152], before: &[u64; 1152]) {
     let mut i = 0;
     while i < words::SIZE {
         tables[i] = before[i];

@@ -23,11 +23,11 @@ module _ (w v : List ℕ) where
       table-same 64 (λ i. queuedOf (flatOf (word v 0 i) (word v 64 i) (word v 128 i) (word v 192 i))) (λ i. queuedOf (flatOf (word w 0 i) (word w 64 i) (word w 128 i) (word w 192 i)))
       (λ k b. rw (h (0 + k) (omega arith) (omega arith), h (64 + k) (omega arith) (omega arith), h (128 + k) (omega arith) (omega arith), h (192 + k) (omega arith) (omega arith)))
 
-  pub results-same : Same 256 384 w v → resultsIn v ≡ resultsIn w
+  pub results-same : Same 256 384 w v → Same 1088 1152 w v → resultsIn v ≡ resultsIn w
   unfolding resultsIn
-  results-same h =
-      table-same 64 (λ i. resultOf (word v 256 i) (word v 320 i)) (λ i. resultOf (word w 256 i) (word w 320 i))
-      (λ k b. rw (h (256 + k) (omega arith) (omega arith), h (320 + k) (omega arith) (omega arith)))
+  results-same h g =
+      table-same 64 (λ i. resultOf (word v 256 i) (word v 320 i) (word v 1088 i)) (λ i. resultOf (word w 256 i) (word w 320 i) (word w 1088 i))
+      (λ k b. rw (h (256 + k) (omega arith) (omega arith), h (320 + k) (omega arith) (omega arith), g (1088 + k) (omega arith) (omega arith)))
 
   pub services-same : Same 384 480 w v → servicesIn v ≡ servicesIn w
   unfolding servicesIn
@@ -41,11 +41,11 @@ module _ (w v : List ℕ) where
       table-same 64 (λ i. characteristicOf (word v 480 i) (word v 544 i) (word v 608 i)) (λ i. characteristicOf (word w 480 i) (word w 544 i) (word w 608 i))
       (λ k b. rw (h (480 + k) (omega arith) (omega arith), h (544 + k) (omega arith) (omega arith), h (608 + k) (omega arith) (omega arith)))
 
-  pub notifications-same : Same 672 736 w v → notificationsIn v ≡ notificationsIn w
+  pub notifications-same : Same 672 736 w v → Same 1056 1088 w v → notificationsIn v ≡ notificationsIn w
   unfolding notificationsIn
-  notifications-same h =
-      table-same 32 (λ i. notificationOf (word v 672 i) (word v 704 i)) (λ i. notificationOf (word w 672 i) (word w 704 i))
-      (λ k b. rw (h (672 + k) (omega arith) (omega arith), h (704 + k) (omega arith) (omega arith)))
+  notifications-same h g =
+      table-same 32 (λ i. notificationOf (word v 672 i) (word v 704 i) (word v 1056 i)) (λ i. notificationOf (word w 672 i) (word w 704 i) (word w 1056 i))
+      (λ k b. rw (h (672 + k) (omega arith) (omega arith), h (704 + k) (omega arith) (omega arith), g (1056 + k) (omega arith) (omega arith)))
 
   pub who-same : Same 736 800 w v → whoIn v ≡ whoIn w
   unfolding whoIn
@@ -73,7 +73,7 @@ module _ (w : List ℕ) where
 
   pub length-results : length (resultsIn w) ≡ 64
   unfolding resultsIn
-  length-results = table-length 64 (λ i. resultOf (word w 256 i) (word w 320 i))
+  length-results = table-length 64 (λ i. resultOf (word w 256 i) (word w 320 i) (word w 1088 i))
 
   pub length-services : length (servicesIn w) ≡ 32
   unfolding servicesIn
@@ -85,7 +85,7 @@ module _ (w : List ℕ) where
 
   pub length-notifications : length (notificationsIn w) ≡ 32
   unfolding notificationsIn
-  length-notifications = table-length 32 (λ i. notificationOf (word w 672 i) (word w 704 i))
+  length-notifications = table-length 32 (λ i. notificationOf (word w 672 i) (word w 704 i) (word w 1056 i))
 
   pub length-who : length (whoIn w) ≡ 64
   unfolding whoIn
@@ -100,9 +100,9 @@ module _ (w : List ℕ) where
   unfolding stepsIn
   step-at i h = table-at 64 i (λ j. queuedOf (flatOf (word w 0 j) (word w 64 j) (word w 128 j) (word w 192 j))) noQueued h
 
-  pub result-at : (i : ℕ) → i < 64 → getD (resultsIn w) i noResult ≡ resultOf (word w 256 i) (word w 320 i)
+  pub result-at : (i : ℕ) → i < 64 → getD (resultsIn w) i noResult ≡ resultOf (word w 256 i) (word w 320 i) (word w 1088 i)
   unfolding resultsIn
-  result-at i h = table-at 64 i (λ j. resultOf (word w 256 j) (word w 320 j)) noResult h
+  result-at i h = table-at 64 i (λ j. resultOf (word w 256 j) (word w 320 j) (word w 1088 j)) noResult h
 
   pub service-at : (i : ℕ) → i < 32 → getD (servicesIn w) i zero-service ≡ serviceOf (word w 384 i) (word w 416 i) (word w 448 i)
   unfolding servicesIn
@@ -112,9 +112,9 @@ module _ (w : List ℕ) where
   unfolding characteristicsIn
   characteristic-at i h = table-at 64 i (λ j. characteristicOf (word w 480 j) (word w 544 j) (word w 608 j)) zero-characteristic h
 
-  pub notification-at : (i : ℕ) → i < 32 → getD (notificationsIn w) i noNotification ≡ notificationOf (word w 672 i) (word w 704 i)
+  pub notification-at : (i : ℕ) → i < 32 → getD (notificationsIn w) i noNotification ≡ notificationOf (word w 672 i) (word w 704 i) (word w 1056 i)
   unfolding notificationsIn
-  notification-at i h = table-at 32 i (λ j. notificationOf (word w 672 j) (word w 704 j)) noNotification h
+  notification-at i h = table-at 32 i (λ j. notificationOf (word w 672 j) (word w 704 j) (word w 1056 j)) noNotification h
 
   pub who-at : (i : ℕ) → i < 64 → getD (whoIn w) i 0 ≡ word w 736 i
   unfolding whoIn
@@ -129,7 +129,7 @@ module _ (w : List ℕ) where
 pub lower-none : (w : List ℕ) (at : ℕ) → Lowered w w at 0
 lower-none w at = record { long = refl; moved = λ p h k. absurd (omega arith); below = λ p h. refl; above = λ p h. refl }
 
-pub lower-on : (w v : List ℕ) (at i : ℕ) → length w ≡ 1056 → at + i + 1 < 1056 → Lowered w v at i → Lowered w (set v (at + i) (getD v (at + i + 1) 0)) at (i + 1)
+pub lower-on : (w v : List ℕ) (at i : ℕ) → length w ≡ 1152 → at + i + 1 < 1152 → Lowered w v at i → Lowered w (set v (at + i) (getD v (at + i + 1) 0)) at (i + 1)
 lower-on w v at i l h d =
     let x : ℕ = getD v (at + i + 1) 0 in
     record {

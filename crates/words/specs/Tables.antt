@@ -12,7 +12,7 @@ use Rattle.words.specs.Table.{table}
 use Rattle.words.specs.Words.{flatOf, queuedOf, resultOf, serviceOf, characteristicOf, notificationOf, channelOf, pduOf, dataLenOf, responseOf, timeOf}
 
 abbrev pub tablesSize : ℕ
-tablesSize = 1056
+tablesSize = 1152
 
 -- word i of the row that begins at r
 abbrev pub word : List ℕ → ℕ → ℕ → ℕ
@@ -22,7 +22,7 @@ unfoldable pub stepsIn : List ℕ → List Queued
 stepsIn w = table 64 (λ i. queuedOf (flatOf (word w 0 i) (word w 64 i) (word w 128 i) (word w 192 i)))
 
 unfoldable pub resultsIn : List ℕ → List StepResult
-resultsIn w = table 64 (λ i. resultOf (word w 256 i) (word w 320 i))
+resultsIn w = table 64 (λ i. resultOf (word w 256 i) (word w 320 i) (word w 1088 i))
 
 unfoldable pub servicesIn : List ℕ → List Service
 servicesIn w = table 32 (λ i. serviceOf (word w 384 i) (word w 416 i) (word w 448 i))
@@ -31,7 +31,7 @@ unfoldable pub characteristicsIn : List ℕ → List Characteristic
 characteristicsIn w = table 64 (λ i. characteristicOf (word w 480 i) (word w 544 i) (word w 608 i))
 
 unfoldable pub notificationsIn : List ℕ → List Notification
-notificationsIn w = table 32 (λ i. notificationOf (word w 672 i) (word w 704 i))
+notificationsIn w = table 32 (λ i. notificationOf (word w 672 i) (word w 704 i) (word w 1056 i))
 
 unfoldable pub whoIn : List ℕ → List ℕ
 whoIn w = table 64 (λ i. word w 736 i)

@@ -1,5 +1,5 @@
 -- What the words of each record say. Every word says something: decoding is total, and fit judges what was decoded.
-use Prim.Native.Nat.{ℕ, _/_, _%_}
+use Prim.Native.Nat.{ℕ, _+_, _*_, _/_, _%_}
 use mathlib.Core.Bool.{Bool, _||_}
 use lib.Dec.{eqb}
 use Rattle.time.specs.declared.Micros.{Micros}
@@ -12,6 +12,8 @@ use Rattle.gatt_characteristics.specs.declared.Characteristic.{Characteristic}
 use Rattle.gatt_characteristics.specs.declared.Cccd.{Cccd}
 use Rattle.gatt_characteristics.specs.declared.Cccd.the-variants as cccd
 use Rattle.notifications.specs.declared.Notification.{Notification}
+use Rattle.notifications.specs.declared.Age.{Age}
+use Rattle.notifications.specs.declared.Age.the-variants.{Any, Within}
 use Rattle.state.specs.Kept.{noResponse}
 use Rattle.state.specs.declared.Queued.{Queued}
 use Rattle.state.specs.declared.StepResult.{StepResult}
@@ -53,6 +55,10 @@ bitAt p x = eqb (x / p % 2) 1
 unfoldable pub targetOf : ℕ → Uuid → Target
 targetOf aim uuid = pick (eqb aim 0) target.Any (pick (eqb aim 1) (target.Address (addressOf (uuid .low))) (target.Service uuid))
 
+-- a wait's age, if its flag is set: 32 bits where a Connect has its latency and its timeout
+abbrev pub ageOf : Flat → Age
+ageOf f = pick (f .flag) (Within (record { 0 = f .latency + two16 * f .timeout })) Any
+
 -- by its kind; a kind of 12 or more is the last
 unfoldable pub stepOf : Flat → Step
 stepOf f =
@@ -66,7 +72,7 @@ stepOf f =
     (pick (eqb k subscribe) (Subscribe (f .uuid) (f .flag))
     (pick (eqb k write) (Write (f .uuid) (f .flag))
     (pick (eqb k read) (Read (f .uuid))
-    (pick (eqb k waitNotification) (WaitNotification (f .uuid) ms)
+    (pick (eqb k waitNotification) (WaitNotification (f .uuid) ms (ageOf f))
     (pick (eqb k wait) (Wait ms)
     (pick (eqb k disconnect) Disconnect
     (pick (eqb k capture) (Capture (f .flag))
@@ -93,7 +99,7 @@ flatOf a low high d =
       interval = d / two48;
     }
 
--- ---- a result: its time | index 32 bits, status 8, the status's code 8, 8 unused, length 8
+-- ---- a result: its time | index 32 bits, status 8, the status's code 8, 8 unused, length 8 | what it heard
 
 unfoldable pub statusOf : ℕ → ℕ → StepStatus
 statusOf n e =
@@ -103,8 +109,8 @@ statusOf n e =
 abbrev pub timeOf : ℕ → Micros
 timeOf t = record { 0 = t }
 
-unfoldable pub resultOf : ℕ → ℕ → StepResult
-resultOf t x = record { index = x % two32; at = timeOf t; status = statusOf (byteAt two32 x) (byteAt 1099511627776 x); len = x / two56 }
+unfoldable pub resultOf : ℕ → ℕ → ℕ → StepResult
+resultOf t x heard = record { index = x % two32; at = timeOf t; status = statusOf (byteAt two32 x) (byteAt 1099511627776 x); len = x / two56; heard = heard }
 
 -- ---- a service: UUID | start 16 bits, end 16
 
@@ -120,10 +126,10 @@ unfoldable pub characteristicOf : ℕ → ℕ → ℕ → Characteristic
 characteristicOf low high x =
     record { declaration = x / two48; properties = x % 256; «value_handle» = halfAt two32 x; uuid = record { low = low; high = high }; cccd = cccdOf (bitAt 256 x) (halfAt two16 x) }
 
--- ---- a notification: its time | handle 16 bits, indication 8, 32 unused, length 8
+-- ---- a notification: its time | handle 16 bits, indication 8, 32 unused, length 8 | its link
 
-unfoldable pub notificationOf : ℕ → ℕ → Notification
-notificationOf t x = record { at = timeOf t; handle = x % two16; len = x / two56; indication = bitAt two16 x }
+unfoldable pub notificationOf : ℕ → ℕ → ℕ → Notification
+notificationOf t x link = record { at = timeOf t; handle = x % two16; len = x / two56; indication = bitAt two16 x; link = link }
 
 -- ---- a report: the advertiser | its time | channel 8 bits, PDU type 8, length 5 of 8, length of the scan response 5 of 8, whether there is none 8.
 -- Lengths of 5 bits are at most 31: no word says one that fit refuses.

@@ -8,7 +8,7 @@ use time::Millis;
 use uuid::Uuid;
 
 // All words of the tables.
-pub const SIZE: usize = 1056;
+pub const SIZE: usize = 1152;
 
 // Waiting steps, 64 places: what fits in a word, the UUID's halves, a Connect's numbers.
 pub const STEP: usize = 0;
@@ -53,7 +53,13 @@ pub const REPORT: usize = 864;
 // The advertisers that the running scan has asked, 128 places.
 pub const KEY: usize = 928;
 
-// A step taken apart: what its kind does not have is 0. The size is that of its value, or the MTU that it names.
+// The link that heard each notification, and what each result heard: rows that came later, behind all others.
+pub const NOTIFICATION_LINK: usize = 1056;
+
+pub const RESULT_HEARD: usize = 1088;
+
+// A step taken apart: what its kind does not have is 0. The size is that of its value, or the MTU that it names. A wait with an age has
+// its flag set, and the age's 32 bits in latency and timeout.
 pub struct Flat {
     pub kind: u8,
     pub flag: bool,
@@ -74,7 +80,7 @@ pub fn size(tables: &[u64]) -> usize
 }
 
 // Each of the n words from at on gets what the word after it has: the first goes, and the others move down by one.
-pub fn lower(tables: &mut [u64; 1056], at: usize, n: usize)
+pub fn lower(tables: &mut [u64; 1152], at: usize, n: usize)
     requires { ⌜ at + n < tablesSize ⌝ }
     ensures { λ _. ⌜ Lowered (now (tables .entry)) (now (tables .exit)) at n ⌝ }
 {

@@ -54,22 +54,22 @@ unpacks low high x k d e f = rw (e, f)
 -- ---- the places
 
 -- only the words of characteristics differ
-pub only-characteristics : (w v : List ℕ) (l : List Characteristic) → Same 0 480 w v → Same 672 1056 w v → characteristicsIn v ≡ l
+pub only-characteristics : (w v : List ℕ) (l : List Characteristic) → Same 0 480 w v → Same 672 1152 w v → characteristicsIn v ≡ l
     → tables v ≡ withCharacteristics (tables w) l
 only-characteristics w v l a b e =
     rw (
       steps-same w v (λ p h k. a p h (omega arith)),
-      results-same w v (λ p h k. a p (omega arith) (omega arith)),
+      results-same w v (λ p h k. a p (omega arith) (omega arith)) (λ p h k. b p (omega arith) (omega arith)),
       services-same w v (λ p h k. a p (omega arith) (omega arith)),
       e,
-      notifications-same w v (λ p h k. b p (omega arith) (omega arith)),
+      notifications-same w v (λ p h k. b p (omega arith) (omega arith)) (λ p h k. b p (omega arith) (omega arith)),
       who-same w v (λ p h k. b p (omega arith) (omega arith)),
       heard-same w v (λ p h k. b p (omega arith) (omega arith)),
       keys-same w v (λ p h k. b p (omega arith) (omega arith)),
     )
 
 -- three words put: the place has them, and every other word is as it was
-module _ (w : List ℕ) (i low high x : ℕ) (long : length w ≡ 1056) (b : i < 64) where
+module _ (w : List ℕ) (i low high x : ℕ) (long : length w ≡ 1152) (b : i < 64) where
   abbrev with : List ℕ
   with = set (set (set w (480 + i) low) (544 + i) high) (608 + i) x
 
@@ -92,8 +92,8 @@ module _ (w : List ℕ) (i low high x : ℕ) (long : length w ≡ 1056) (b : i <
   place-there =
       let w₁ : List ℕ = set w (480 + i) low in
       let w₂ : List ℕ = set w₁ (544 + i) high in
-      let l₁ : length w₁ ≡ 1056 = length-set w (480 + i) low ∙ long in
-      let l₂ : length w₂ ≡ 1056 = length-set w₁ (544 + i) high ∙ l₁ in
+      let l₁ : length w₁ ≡ 1152 = length-set w (480 + i) low ∙ long in
+      let l₂ : length w₂ ≡ 1152 = length-set w₁ (544 + i) high ∙ l₁ in
       let e₀ : getD with (480 + i) 0 ≡ low =
       getD-set-other w₂ (608 + i) (480 + i) x 0 (λ e. omega arith)
       ∙ getD-set-other w₁ (544 + i) (480 + i) high 0 (λ e. omega arith)

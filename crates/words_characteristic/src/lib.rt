@@ -116,7 +116,7 @@ fn unpacked(low: u64, high: u64, word: u64) -> Characteristic
 
 // ---- one place
 
-fn characteristic_at(tables: &[u64; 1056], i: usize) -> Characteristic
+fn characteristic_at(tables: &[u64; 1152], i: usize) -> Characteristic
     requires { ⌜ i < mostCharacteristics ⌝ }
     ensures { λ r. ⌜ r ≡ getD (characteristicsIn (now (tables .entry))) i zero-characteristic ⌝ }
 {
@@ -130,7 +130,7 @@ fn characteristic_at(tables: &[u64; 1056], i: usize) -> Characteristic
 }
 
 // Three words go into place i.
-fn put_words(tables: &mut [u64; 1056], i: usize, low: u64, high: u64, word: u64)
+fn put_words(tables: &mut [u64; 1152], i: usize, low: u64, high: u64, word: u64)
     requires { ⌜ i < mostCharacteristics ⌝ }
     ensures { λ _.
         ⌜ all.tables (now (tables .exit))
@@ -145,7 +145,7 @@ fn put_words(tables: &mut [u64; 1056], i: usize, low: u64, high: u64, word: u64)
     tables[word_at] = word;
 }
 
-fn put_characteristic(tables: &mut [u64; 1056], i: usize, x: Characteristic)
+fn put_characteristic(tables: &mut [u64; 1152], i: usize, x: Characteristic)
     requires { ⌜ i < mostCharacteristics ⌝ }
     ensures { λ _.
         ⌜ all.tables (now (tables .exit))
@@ -159,7 +159,7 @@ fn put_characteristic(tables: &mut [u64; 1056], i: usize, x: Characteristic)
 // ---- searches
 
 // The first of count characteristics with this UUID. Only a hit is read whole.
-pub fn find_characteristic(tables: &[u64; 1056], count: usize, uuid: Uuid) -> Which
+pub fn find_characteristic(tables: &[u64; 1152], count: usize, uuid: Uuid) -> Which
     requires { ⌜ count ≤ mostCharacteristics ⌝ }
     ensures { λ r. ⌜ r ≡ characteristicWith uuid (take count (characteristicsIn (now (tables .entry)))) ⌝ }
 {
@@ -180,7 +180,7 @@ pub fn find_characteristic(tables: &[u64; 1056], count: usize, uuid: Uuid) -> Wh
 }
 
 // Whether the first count rise strictly by declaration. There is no early exit, so that the loop goes fast.
-pub fn is_rising(tables: &[u64; 1056], count: usize) -> bool
+pub fn is_rising(tables: &[u64; 1152], count: usize) -> bool
     requires { ⌜ count ≤ mostCharacteristics ⌝ }
     ensures { λ r. ⌜ r ≡ rises (take count (characteristicsIn (now (tables .entry)))) ⌝ }
 {
@@ -238,7 +238,7 @@ fn scan_one(start: u16, end: u16, from: u16, c: Characteristic, s: Scan) -> Scan
 
 // The first range of handles, from from on, that may hold descriptors of the service from start to end.
 pub fn descriptor_range(
-    tables: &[u64; 1056],
+    tables: &[u64; 1152],
     count: usize,
     start: u16,
     end: u16,
@@ -264,7 +264,7 @@ pub fn descriptor_range(
 // ---- all of them
 
 // The first count by value. The rest is zeros.
-pub fn characteristics_of(tables: &[u64; 1056], count: usize) -> Characteristics
+pub fn characteristics_of(tables: &[u64; 1152], count: usize) -> Characteristics
     requires { ⌜ count ≤ mostCharacteristics ⌝ }
     ensures { λ r. ⌜ (r .count ≡ count) × (known r ≡ take count (characteristicsIn (now (tables .entry)))) ⌝ }
 {
@@ -285,7 +285,7 @@ pub fn characteristics_of(tables: &[u64; 1056], count: usize) -> Characteristics
 }
 
 // What t knows goes into the first places. The others stay.
-pub fn put_characteristics(tables: &mut [u64; 1056], t: Characteristics)
+pub fn put_characteristics(tables: &mut [u64; 1152], t: Characteristics)
     requires { ⌜ t .count ≤ mostCharacteristics ⌝ }
     ensures { λ _.
         ⌜ all.tables (now (tables .exit))
@@ -306,7 +306,7 @@ pub fn put_characteristics(tables: &mut [u64; 1056], t: Characteristics)
 // The entries of size bytes that stand in the store from index from to index end go into the first count. Where there is none, the last
 // handle is none.
 pub fn take_characteristics(
-    tables: &mut [u64; 1056],
+    tables: &mut [u64; 1152],
     count: usize,
     store: &[u8],
     from: usize,
@@ -336,7 +336,7 @@ pub fn take_characteristics(
 
 // The descriptors that the entries name go to the first count characteristics; the answer is the handle after the last of them, or first.
 pub fn name_descriptors(
-    tables: &mut [u64; 1056],
+    tables: &mut [u64; 1152],
     count: usize,
     store: &[u8],
     from: usize,

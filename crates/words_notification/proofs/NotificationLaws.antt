@@ -11,11 +11,12 @@ use borrow.Author.Tests.{le-leb, lt-leb, ltb-true, ltb-false}
 use Rattle.bytes.specs.Choice.{pick}
 use Rattle.state_places.specs.Sizes.{valueSize}
 use Rattle.lists.specs.Queue.{all, shifted}
+use Rattle.lists.specs.Blocks.{fitting}
 use Rattle.lists.proofs.ScanLaws.{rest-cons, rest-nil}
 use Rattle.state.specs.Fresh.{noNotification}
 use Rattle.notifications.specs.declared.Notification.{Notification}
 use Rattle.notifications.specs.declared.Notifications.{Notifications}
-use Rattle.notifications.specs.Kept.{valuesFit, keeping}
+use Rattle.notifications.specs.Kept.{valuesFit, linksFit, keeping}
 use Rattle.notifications.proofs.KeepLaws.{keeping-room, keeping-full}
 use Rattle.words.specs.Words.{two16, two56, bitAt, notificationOf}
 use Rattle.words.specs.Tables.{Tables, word, tables, withNotifications, notificationsIn}
@@ -35,7 +36,7 @@ one-bit true = refl
 one-bit false = refl
 
 pub word-read : (x : Notification) (f : ℕ) → f ≡ pick (x .indication) 1 0 → f < 2 → x .handle < 65536
-    → notificationOf (x .at .0) (x .handle + 65536 * f + 72057594037927936 * x .len) ≡ x
+    → notificationOf (x .at .0) (x .handle + 65536 * f + 72057594037927936 * x .len) (x .link) ≡ x
 unfolding notificationOf
 word-read x f e b h =
     let n : ℕ = x .handle + 65536 * f + 72057594037927936 * x .len in
@@ -46,87 +47,108 @@ word-read x f e b h =
     rw (p, q, r, s, e, one-bit (x .indication))
 
 pub word-say : (w : List ℕ) (i len : ℕ) → i < 32 → len ≡ getD w (704 + i) 0 / two56
-    → record { at = record { 0 = getD w (672 + i) 0 }; handle = getD w (704 + i) 0 % two16; len = len; indication = bitAt two16 (getD w (704 + i) 0) }
+    → record { at = record { 0 = getD w (672 + i) 0 }; handle = getD w (704 + i) 0 % two16; len = len; indication = bitAt two16 (getD w (704 + i) 0); link = getD w (1056 + i) 0 }
     ≡ getD (notificationsIn w) i noNotification
 unfolding notificationOf
 word-say w i len h e = rw (e, notification-at w i h)
 
 -- ---- all tables: v has the words of w but those of the notifications, and reads l there
 
-pub alone : (w v : List ℕ) (l : List Notification) → Same 0 672 w v → Same 736 1056 w v → notificationsIn v ≡ l → tables v ≡ withNotifications (tables w) l
-alone w v l below above e =
+pub alone : (w v : List ℕ) (l : List Notification) → Same 0 672 w v → Same 736 1056 w v → Same 1088 1152 w v → notificationsIn v ≡ l
+    → tables v ≡ withNotifications (tables w) l
+alone w v l below between above e =
     rw (
       steps-same w v (λ p a b. below p (omega arith) (omega arith)),
-      results-same w v (λ p a b. below p (omega arith) (omega arith)),
+      results-same w v (λ p a b. below p (omega arith) (omega arith)) above,
       services-same w v (λ p a b. below p (omega arith) (omega arith)),
       characteristics-same w v (λ p a b. below p (omega arith) (omega arith)),
-      who-same w v (λ p a b. above p (omega arith) (omega arith)),
-      heard-same w v (λ p a b. above p (omega arith) (omega arith)),
-      keys-same w v (λ p a b. above p (omega arith) (omega arith)),
+      who-same w v (λ p a b. between p (omega arith) (omega arith)),
+      heard-same w v (λ p a b. between p (omega arith) (omega arith)),
+      keys-same w v (λ p a b. between p (omega arith) (omega arith)),
       e,
     )
 
--- two words put
-module _ (w : List ℕ) (i t x : ℕ) (long : length w ≡ 1056) (b : i < 32) where
+-- what the words of place k say
+abbrev placed : List ℕ → ℕ → Notification
+placed w k = notificationOf (word w 672 k) (word w 704 k) (word w 1056 k)
+
+-- three words put: the place has them, and every other word is as it was
+module _ (w : List ℕ) (i t x link : ℕ) (long : length w ≡ 1152) (b : i < 32) where
   abbrev with : List ℕ
-  with = set (set w (672 + i) t) (704 + i) x
+  with = set (set (set w (672 + i) t) (704 + i) x) (1056 + i) link
 
-  other : (p : ℕ) → (p ≡ 672 + i → ⊥) → (p ≡ 704 + i → ⊥) → getD with p 0 ≡ getD w p 0
-  other p n m = getD-set-other (set w (672 + i) t) (704 + i) p x 0 m ∙ getD-set-other w (672 + i) p t 0 n
+  other : (p : ℕ) → (p ≡ 672 + i → ⊥) → (p ≡ 704 + i → ⊥) → (p ≡ 1056 + i → ⊥) → getD with p 0 ≡ getD w p 0
+  other p n₀ n₁ n₂ =
+      getD-set-other (set (set w (672 + i) t) (704 + i) x) (1056 + i) p link 0 n₂
+      ∙ getD-set-other (set w (672 + i) t) (704 + i) p x 0 n₁
+      ∙ getD-set-other w (672 + i) p t 0 n₀
 
-  there : notificationOf (word with 672 i) (word with 704 i) ≡ notificationOf t x
+  there : placed with i ≡ notificationOf t x link
   there =
-      let l : length (set w (672 + i) t) ≡ 1056 = length-set w (672 + i) t ∙ long in
-      let e : getD with (672 + i) 0 ≡ t =
-      getD-set-other (set w (672 + i) t) (704 + i) (672 + i) x 0 (λ e. omega arith) ∙ getD-set-same w (672 + i) t 0 (omega arith) in
-      let g : getD with (704 + i) 0 ≡ x = getD-set-same (set w (672 + i) t) (704 + i) x 0 (omega arith) in
-      rw (e, g)
+      let w₁ : List ℕ = set w (672 + i) t in
+      let w₂ : List ℕ = set w₁ (704 + i) x in
+      let l₁ : length w₁ ≡ 1152 = length-set w (672 + i) t ∙ long in
+      let l₂ : length w₂ ≡ 1152 = length-set w₁ (704 + i) x ∙ l₁ in
+      let e₀ : getD with (672 + i) 0 ≡ t =
+      getD-set-other w₂ (1056 + i) (672 + i) link 0 (λ e. omega arith)
+      ∙ getD-set-other w₁ (704 + i) (672 + i) x 0 (λ e. omega arith)
+      ∙ getD-set-same w (672 + i) t 0 (omega arith) in
+      let e₁ : getD with (704 + i) 0 ≡ x =
+      getD-set-other w₂ (1056 + i) (704 + i) link 0 (λ e. omega arith) ∙ getD-set-same w₁ (704 + i) x 0 (omega arith) in
+      let e₂ : getD with (1056 + i) 0 ≡ link = getD-set-same w₂ (1056 + i) link 0 (omega arith) in
+      rw (e₀, e₁, e₂)
 
-  elsewhere : (k : ℕ) → k < 32 → (k ≡ i → ⊥) → notificationOf (word with 672 k) (word with 704 k) ≡ notificationOf (word w 672 k) (word w 704 k)
+  elsewhere : (k : ℕ) → k < 32 → (k ≡ i → ⊥) → placed with k ≡ placed w k
   elsewhere k h n =
       rw (
-        other (672 + k) (λ e. n (omega arith)) (λ e. omega arith),
-        other (704 + k) (λ e. omega arith) (λ e. n (omega arith)),
+        other (672 + k) (λ e. n (omega arith)) (λ e. omega arith) (λ e. omega arith),
+        other (704 + k) (λ e. omega arith) (λ e. n (omega arith)) (λ e. omega arith),
+        other (1056 + k) (λ e. omega arith) (λ e. omega arith) (λ e. n (omega arith)),
       )
 
-  put-there : (y : Notification) → notificationOf t x ≡ y → notificationsIn with ≡ set (notificationsIn w) i y
+  put-there : (y : Notification) → notificationOf t x link ≡ y → notificationsIn with ≡ set (notificationsIn w) i y
   unfolding notificationsIn
-  put-there y e =
-      table-set 32 (λ k. notificationOf (word with 672 k) (word with 704 k)) (λ k. notificationOf (word w 672 k) (word w 704 k)) i y b (there ∙ e) elsewhere
+  put-there y e = table-set 32 (λ k. placed with k) (λ k. placed w k) i y b (there ∙ e) elsewhere
 
-  pub put-law : (y : Notification) → notificationOf t x ≡ y → tables with ≡ withNotifications (tables w) (set (notificationsIn w) i y)
+  pub put-law : (y : Notification) → notificationOf t x link ≡ y → tables with ≡ withNotifications (tables w) (set (notificationsIn w) i y)
   put-law y e =
       alone w with (set (notificationsIn w) i y)
-      (λ p a c. other p (λ n. omega arith) (λ n. omega arith))
-      (λ p a c. other p (λ n. omega arith) (λ n. omega arith))
+      (λ p a c. other p (λ n. omega arith) (λ n. omega arith) (λ n. omega arith))
+      (λ p a c. other p (λ n. omega arith) (λ n. omega arith) (λ n. omega arith))
+      (λ p a c. other p (λ n. omega arith) (λ n. omega arith) (λ n. omega arith))
       (put-there y e)
 
--- both rows moved down
-module _ (w v u : List ℕ) (d : Lowered w v 672 31) (g : Lowered v u 704 31) where
-  down-there : notificationsIn u ≡ shifted (notificationsIn w) 31
+-- three rows moved down
+module _ (w v u o : List ℕ) (d : Lowered w v 672 31) (g : Lowered v u 704 31) (h : Lowered u o 1056 31) where
+  down-there : notificationsIn o ≡ shifted (notificationsIn w) 31
   unfolding notificationsIn
   down-there =
-      table-lowered 32 31 (λ k. notificationOf (word u 672 k) (word u 704 k)) (λ k. notificationOf (word w 672 k) (word w 704 k)) (omega arith) low high
+      table-lowered 32 31 (λ k. placed o k) (λ k. placed w k) (omega arith) low high
     where
-      low : (k : ℕ) → k < 31 → notificationOf (word u 672 k) (word u 704 k) ≡ notificationOf (word w 672 (k + 1)) (word w 704 (k + 1))
-      low k h =
-          let a : getD u (672 + k) 0 ≡ getD w (672 + k + 1) 0 = g .below (672 + k) (omega arith) ∙ d .moved (672 + k) (omega arith) (omega arith) in
-          let b : getD u (704 + k) 0 ≡ getD w (704 + k + 1) 0 = g .moved (704 + k) (omega arith) (omega arith) ∙ d .above (704 + k + 1) (omega arith) in
-          let m : 672 + k + 1 ≡ 672 + (k + 1) = omega arith in
-          let n : 704 + k + 1 ≡ 704 + (k + 1) = omega arith in
-          rw (a, b, m, n)
+      low : (k : ℕ) → k < 31 → placed o k ≡ placed w (k + 1)
+      low k b =
+          let at : (r : ℕ) → getD w (r + k + 1) 0 ≡ word w r (k + 1) = λ r. let e : r + k + 1 ≡ r + (k + 1) = omega arith in ap (λ (p : ℕ). getD w p 0) e in
+          let e₀ : word o 672 k ≡ word w 672 (k + 1) =
+          h .below (672 + k) (omega arith) ∙ g .below (672 + k) (omega arith) ∙ d .moved (672 + k) (omega arith) (omega arith) ∙ at 672 in
+          let e₁ : word o 704 k ≡ word w 704 (k + 1) =
+          h .below (704 + k) (omega arith) ∙ g .moved (704 + k) (omega arith) (omega arith) ∙ d .above (704 + k + 1) (omega arith) ∙ at 704 in
+          let e₂ : word o 1056 k ≡ word w 1056 (k + 1) =
+          h .moved (1056 + k) (omega arith) (omega arith) ∙ g .above (1056 + k + 1) (omega arith) ∙ d .above (1056 + k + 1) (omega arith) ∙ at 1056 in
+          rw (e₀, e₁, e₂)
 
-      high : (k : ℕ) → 31 ≤ k → k < 32 → notificationOf (word u 672 k) (word u 704 k) ≡ notificationOf (word w 672 k) (word w 704 k)
-      high k h j =
-          let a : getD u (672 + k) 0 ≡ getD w (672 + k) 0 = g .below (672 + k) (omega arith) ∙ d .above (672 + k) (omega arith) in
-          let b : getD u (704 + k) 0 ≡ getD w (704 + k) 0 = g .above (704 + k) (omega arith) ∙ d .above (704 + k) (omega arith) in
-          rw (a, b)
+      high : (k : ℕ) → 31 ≤ k → k < 32 → placed o k ≡ placed w k
+      high k b c =
+          let e₀ : word o 672 k ≡ word w 672 k = h .below (672 + k) (omega arith) ∙ g .below (672 + k) (omega arith) ∙ d .above (672 + k) (omega arith) in
+          let e₁ : word o 704 k ≡ word w 704 k = h .below (704 + k) (omega arith) ∙ g .above (704 + k) (omega arith) ∙ d .above (704 + k) (omega arith) in
+          let e₂ : word o 1056 k ≡ word w 1056 k = h .above (1056 + k) (omega arith) ∙ g .above (1056 + k) (omega arith) ∙ d .above (1056 + k) (omega arith) in
+          rw (e₀, e₁, e₂)
 
-  pub down-law : tables u ≡ withNotifications (tables w) (shifted (notificationsIn w) 31)
+  pub down-law : tables o ≡ withNotifications (tables w) (shifted (notificationsIn w) 31)
   down-law =
-      alone w u (shifted (notificationsIn w) 31)
-      (λ p a b. g .below p (omega arith) ∙ d .below p (omega arith))
-      (λ p a b. g .above p (omega arith) ∙ d .above p (omega arith))
+      alone w o (shifted (notificationsIn w) 31)
+      (λ p a b. h .below p (omega arith) ∙ g .below p (omega arith) ∙ d .below p (omega arith))
+      (λ p a b. h .below p (omega arith) ∙ g .above p (omega arith) ∙ d .above p (omega arith))
+      (λ p a b. h .above p (omega arith) ∙ g .above p (omega arith) ∙ d .above p (omega arith))
       down-there
 
 -- ---- one more
@@ -150,7 +172,30 @@ keep-full w v u n x h e f =
       ap (λ (y : Notifications). y .count) k,
     )
 
--- ---- lengths
+-- ---- a field of each of the first n is small enough
+
+and-unit : (a : Bool) → (a && true) ≡ a
+and-unit true = refl
+and-unit false = refl
+
+-- one more place, of which b tells it, and the end
+module _ (f : Notification → ℕ) (most : ℕ) (w : List ℕ) (n i : ℕ) (ok : Bool) (few : n ≤ 32) where
+  abbrev rest : ℕ → Bool
+  rest j = fitting f most (drop j (take n (notificationsIn w)))
+
+  field-on : (b : Bool) → i < n → b ≡ leb (f (placed w i)) most → (ok && rest i) ≡ ((ok && b) && rest (i + 1))
+  unfolding all
+  field-on b h e =
+      let g : length (notificationsIn w) ≡ 32 = length-notifications w in
+      ap (λ (t : List Notification). ok && fitting f most t) (rest-cons (notificationsIn w) n i noNotification h (omega arith))
+      ∙ sym (and-assoc ok (leb (f (getD (notificationsIn w) i noNotification)) most) (rest (i + 1)))
+      ∙ ap (λ (t : Bool). (ok && t) && rest (i + 1)) (ap (λ (x : Notification). leb (f x) most) (notification-at w i (omega arith)) ∙ sym e)
+
+  field-end : n ≤ i → (ok && rest i) ≡ ok
+  unfolding all
+  field-end h =
+      let g : length (notificationsIn w) ≡ 32 = length-notifications w in
+      ap (λ (t : List Notification). ok && fitting f most t) (rest-nil (notificationsIn w) n i h (omega arith)) ∙ and-unit ok
 
 below : (x : ℕ) → ltb x lengthEnd ≡ leb (x / two56) valueSize
 below x = go (ltb x lengthEnd) refl
@@ -159,23 +204,20 @@ below x = go (ltb x lengthEnd) refl
     go true e = sym (le-leb (x / two56) valueSize (omega (arith, ltb-true x lengthEnd e)))
     go false e = sym (lt-leb (x / two56) valueSize (omega (arith, ltb-false x lengthEnd e)))
 
-and-unit : (a : Bool) → (a && true) ≡ a
-and-unit true = refl
-and-unit false = refl
+module _ (w : List ℕ) (n i : ℕ) (ok : Bool) (few : n ≤ 32) where
+  pub value-on : i < n
+      → (ok && valuesFit (drop i (take n (notificationsIn w)))) ≡ ((ok && ltb (getD w (704 + i) 0) lengthEnd) && valuesFit (drop (i + 1) (take n (notificationsIn w))))
+  unfolding notificationOf
+  value-on h = field-on (λ (x : Notification). x .len) valueSize w n i ok few (ltb (getD w (704 + i) 0) lengthEnd) h (below (getD w (704 + i) 0))
 
-pub fit-on : (w : List ℕ) (n i : ℕ) (ok : Bool) → n ≤ 32 → i < n
-    → (ok && valuesFit (drop i (take n (notificationsIn w)))) ≡ ((ok && ltb (getD w (704 + i) 0) lengthEnd) && valuesFit (drop (i + 1) (take n (notificationsIn w))))
-unfolding all notificationOf
-fit-on w n i ok k h =
-    let rest : Bool = valuesFit (drop (i + 1) (take n (notificationsIn w))) in
-    let g : length (notificationsIn w) ≡ 32 = length-notifications w in
-    ap (λ (t : List Notification). ok && valuesFit t) (rest-cons (notificationsIn w) n i noNotification h (omega arith))
-    ∙ sym (and-assoc ok (leb (getD (notificationsIn w) i noNotification .len) valueSize) rest)
-    ∙ ap (λ (b : Bool). (ok && b) && rest)
-    (ap (λ (x : Notification). leb (x .len) valueSize) (notification-at w i (omega arith)) ∙ sym (below (getD w (704 + i) 0)))
+  pub value-end : n ≤ i → (ok && valuesFit (drop i (take n (notificationsIn w)))) ≡ ok
+  value-end h = field-end (λ (x : Notification). x .len) valueSize w n i ok few h
 
-pub fit-end : (w : List ℕ) (n i : ℕ) (ok : Bool) → n ≤ 32 → n ≤ i → (ok && valuesFit (drop i (take n (notificationsIn w)))) ≡ ok
-unfolding all
-fit-end w n i ok k h =
-    let g : length (notificationsIn w) ≡ 32 = length-notifications w in
-    ap (λ (t : List Notification). ok && valuesFit t) (rest-nil (notificationsIn w) n i h (omega arith)) ∙ and-unit ok
+  module _ (links : ℕ) where
+    pub link-on : i < n
+        → (ok && linksFit links (drop i (take n (notificationsIn w)))) ≡ ((ok && leb (getD w (1056 + i) 0) links) && linksFit links (drop (i + 1) (take n (notificationsIn w))))
+    unfolding notificationOf
+    link-on h = field-on (λ (x : Notification). x .link) links w n i ok few (leb (getD w (1056 + i) 0) links) h refl
+
+    pub link-end : n ≤ i → (ok && linksFit links (drop i (take n (notificationsIn w)))) ≡ ok
+    link-end h = field-end (λ (x : Notification). x .link) links w n i ok few h

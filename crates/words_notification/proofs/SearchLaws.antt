@@ -1,5 +1,5 @@
 -- Laws of the search: what a place adds to the joined values, and what is left to compare after one byte, one value, one place.
-use Prim.Native.Nat.{ℕ, zero, suc, _+_, _*_, _-_, _/_, _%_, _<_, _≤_, min}
+use Prim.Native.Nat.{ℕ, zero, suc, _+_, _*_, _-_, _<_, _≤_, min}
 use mathlib.Core.Path.{_≡_, refl, sym, ap, ap₂, _∙_}
 use mathlib.Core.Bool.{Bool, true, false, _&&_, _||_}
 use mathlib.Core.List.{List, [], _∷_, _++_}
@@ -15,41 +15,56 @@ use Rattle.lists.specs.Blocks.{bytes}
 use Rattle.lists.proofs.BlockLaws.{valued-here, valued-end}
 use Rattle.state.specs.Fresh.{noNotification}
 use Rattle.notifications.specs.declared.Notification.{Notification}
+use Rattle.notifications.specs.declared.Wanted.{Wanted}
 use Rattle.notifications.specs.Kept.{part, live, heard, valuesFit}
-use Rattle.notifications.specs.Wait.{any, seen, starts, contains}
-use Rattle.notifications.proofs.WaitLaws.{fit-at, any-hit, any-pass, any-end}
-use Rattle.words.specs.Words.{two16, two56, notificationOf}
-use Rattle.words.specs.Tables.{word, notificationsIn}
-use Rattle.words.proofs.RowLaws.{length-notifications, notification-at}
+use Rattle.notifications.specs.Wait.{counts, any, seen, starts, contains, newestCounted}
+use Rattle.notifications.proofs.WaitLaws.{fit-at, any-hit, any-pass, any-end, newest-on, newest-end}
+use Rattle.words.specs.Tables.{notificationsIn}
+use Rattle.words.proofs.RowLaws.{length-notifications}
 use Rattle.words_notification.specs.Kept.{keptIn}
 use Rattle.words_notification.specs.Search.{own, joined, stands, Ready}
 
--- ---- what a word says of its place
+-- ---- x is what place i has, and b tells whether it counts
 
-pub handle-at : (w : List ℕ) (i : ℕ) → i < 32 → getD (notificationsIn w) i noNotification .handle ≡ word w 704 i % two16
-unfolding notificationOf
-handle-at w i h = ap (λ (x : Notification). x .handle) (notification-at w i h)
+module _ (w : List ℕ) (c i : ℕ) (h : Wanted) (few : c ≤ 32) where
+  places : c ≤ length (notificationsIn w)
+  places = omega (arith, length-notifications w)
 
-pub len-at : (w : List ℕ) (i : ℕ) → i < 32 → getD (notificationsIn w) i noNotification .len ≡ word w 704 i / two56
-unfolding notificationOf
-len-at w i h = ap (λ (x : Notification). x .len) (notification-at w i h)
+  module _ (x : Notification) (b : Bool) (p : i < c) (e : x ≡ getD (notificationsIn w) i noNotification) (f : b ≡ counts h x) where
+    told : (t : Bool) → b ≡ t → counts h (getD (notificationsIn w) i noNotification) ≡ t
+    told t g = ap (counts h) (sym e) ∙ sym f ∙ g
 
--- ---- one of the handle
+    pub is-hit : (s : List ℕ) → b ≡ true → any h (drop i (heard s (live (keptIn w c)))) ≡ true
+    is-hit s g = any-hit (notificationsIn w) c i h s p places (told true g)
 
-module _ (w : List ℕ) (c i h : ℕ) (s : List ℕ) (few : c ≤ 32) where
-  pub is-hit : i < c → word w 704 i % two16 ≡ h → any h (drop i (heard s (live (keptIn w c)))) ≡ true
-  is-hit p e = any-hit (notificationsIn w) c i h s p (omega (arith, length-notifications w)) (handle-at w i (omega arith) ∙ e)
+    pub is-pass : (s : List ℕ) → b ≡ false → any h (drop i (heard s (live (keptIn w c)))) ≡ any h (drop (i + 1) (heard s (live (keptIn w c))))
+    is-pass s g = any-pass (notificationsIn w) c i h s p places (told false g)
 
-  pub is-pass : i < c → (word w 704 i % two16 ≡ h → ⊥)
-      → any h (drop i (heard s (live (keptIn w c)))) ≡ any h (drop (i + 1) (heard s (live (keptIn w c))))
-  is-pass p n = any-pass (notificationsIn w) c i h s p (omega (arith, length-notifications w)) (λ e. n (sym (handle-at w i (omega arith)) ∙ e))
+    -- place 0 has number first; `next` is the newest with this one
+    pub is-newest : (first newest next : ℕ) (t : Bool) → b ≡ t → next ≡ pick t (first + i + 1) newest
+        → newestCounted h (first + i) newest (drop i (live (keptIn w c))) ≡ newestCounted h (first + (i + 1)) next (drop (i + 1) (live (keptIn w c)))
+    is-newest first newest next t g k =
+        let n : first + i + 1 ≡ first + (i + 1) = omega arith in
+        newest-on h (notificationsIn w) c i (first + i) newest places p
+        ∙ ap₂ (λ (j m : ℕ). newestCounted h j m (drop (i + 1) (live (keptIn w c)))) n (ap (λ (u : Bool). pick u (first + i + 1) newest) (told t g) ∙ sym k)
 
-  pub is-end : c ≤ i → any h (drop i (heard s (live (keptIn w c)))) ≡ false
-  is-end p = any-end (notificationsIn w) c i h s p (omega (arith, length-notifications w))
+  pub is-end : (s : List ℕ) → c ≤ i → any h (drop i (heard s (live (keptIn w c)))) ≡ false
+  is-end s p = any-end (notificationsIn w) c i h s p places
+
+  pub newest-all : (first newest : ℕ) → c ≤ i → newestCounted h (first + i) newest (drop i (live (keptIn w c))) ≡ newest
+  newest-all first newest p = newest-end h (notificationsIn w) c i (first + i) newest places p
+
+-- how many bytes it has
+module _ (w : List ℕ) (i : ℕ) (h : Wanted) (x : Notification) (b : Bool) (e : x ≡ getD (notificationsIn w) i noNotification) (f : b ≡ counts h x) where
+  pub size-own : b ≡ true → x .len ≡ own h w i
+  size-own g = rw (← e, ← f, g)
+
+  pub size-none : b ≡ false → 0 ≡ own h w i
+  size-none g = rw (← e, ← f, g)
 
 -- ---- what a place adds to the joined values
 
-module _ (h : ℕ) (w s : List ℕ) (c i : ℕ) (few : c ≤ 32) where
+module _ (h : Wanted) (w s : List ℕ) (c i : ℕ) (few : c ≤ 32) where
   pub joined-end : c ≤ i → joined h w s c i ≡ []
   unfolding seen
   joined-end p = ap (seen h) (valued-end (λ (x : Notification). x .len) part s (notificationsIn w) c i p (omega (arith, length-notifications w)))
@@ -69,24 +84,25 @@ module _ (h : ℕ) (w s : List ℕ) (c i : ℕ) (few : c ≤ 32) where
     pub joined-here : joined h w s c i ≡ bytes s (notificationAt i) (own h w i) ++ joined h w s c (i + 1)
     unfolding seen
     joined-here =
-        rw (
-          valued-here (λ (x : Notification). x .len) part s (notificationsIn w) c i noNotification p (omega (arith, length-notifications w)),
-          handle-at w i (omega arith),
-          len-at w i (omega arith),
-        )
-        (ap (λ (l : List ℕ). l ++ joined h w s c (i + 1)) (go (eqb (word w 704 i % two16) h)))
+        rw (valued-here (λ (x : Notification). x .len) part s (notificationsIn w) c i noNotification p (omega (arith, length-notifications w)))
+        (ap (λ (l : List ℕ). l ++ joined h w s c (i + 1)) (go (counts h (getD (notificationsIn w) i noNotification))))
       where
-        go : (b : Bool) → pick b (bytes s (notificationAt i) (word w 704 i / two56)) [] ≡ bytes s (notificationAt i) (pick b (word w 704 i / two56) 0)
+        n : ℕ
+        n = getD (notificationsIn w) i noNotification .len
+
+        go : (b : Bool) → pick b (bytes s (notificationAt i) n) [] ≡ bytes s (notificationAt i) (pick b n 0)
         go true = refl
         go false = refl
 
     module _ (fit : valuesFit (live (keptIn w c)) ≡ true) where
       pub own-small : own h w i ≤ valueSize
       own-small =
-          go (eqb (word w 704 i % two16) h)
-          (omega (arith, len-at w i (omega arith), fit-at (notificationsIn w) c i p (omega (arith, length-notifications w)) fit))
+          go (counts h (getD (notificationsIn w) i noNotification)) (fit-at (notificationsIn w) c i p (omega (arith, length-notifications w)) fit)
         where
-          go : (b : Bool) → word w 704 i / two56 ≤ valueSize → pick b (word w 704 i / two56) 0 ≤ valueSize
+          n : ℕ
+          n = getD (notificationsIn w) i noNotification .len
+
+          go : (b : Bool) → n ≤ valueSize → pick b n 0 ≤ valueSize
           go true b = b
           go false b = omega arith
 
@@ -268,14 +284,14 @@ module _ (s : List ℕ) (at m : ℕ) (hs : at + m ≤ length s) (x y : List ℕ)
 
 -- ---- the same of a place of the words
 
-module _ (h : ℕ) (w s : List ℕ) (c i at m : ℕ) (q : Ready w c s at m) (p : i < c) where
+module _ (h : Wanted) (w s : List ℕ) (c i at m : ℕ) (q : Ready w c s at m) (p : i < c) where
   pub size-small : own h w i ≤ valueSize
   size-small = own-small h w s c i (q .0) p (q .1)
 
   pub size-length : length (joined h w s c i) ≡ own h w i + length (joined h w s c (i + 1))
   size-length = joined-length h w s c i (q .0) p (q .1) (q .2)
 
-  -- its value stands at spot and has z bytes of the handle
+  -- its value stands at spot and has z bytes that count
   module _ (spot z : ℕ) (es : spot ≡ notificationAt i) (ez : z ≡ own h w i) where
     here : joined h w s c i ≡ bytes s spot z ++ joined h w s c (i + 1)
     here = joined-here h w s c i (q .0) p ∙ ap₂ (λ (a b : ℕ). bytes s a b ++ joined h w s c (i + 1)) (sym es) (sym ez)
@@ -328,5 +344,5 @@ module _ (h : ℕ) (w s : List ℕ) (c i at m : ℕ) (q : Ready w c s at m) (p :
       place-passed t n e l g = f ∙ ap (λ (u : Bool). u || stands h w s c i k at m) t ∙ value-tried k n e l g
 
 -- too little is left
-pub none-left : (h : ℕ) (w s : List ℕ) (c i at m n : ℕ) → at + m ≤ length s → n ≡ length (joined h w s c i) → n < m → stands h w s c i 0 at m ≡ false
+pub none-left : (h : Wanted) (w s : List ℕ) (c i at m n : ℕ) → at + m ≤ length s → n ≡ length (joined h w s c i) → n < m → stands h w s c i 0 at m ≡ false
 none-left h w s c i at m n hs e p = contains-short (bytes s at m) (joined h w s c i) (omega (arith, needle-length s at m hs))

@@ -1,27 +1,29 @@
-// Kept notifications in the lent words, a time and one word more for each of 32 places, and a wait's search through their values.
+// Kept notifications in the lent words, a time, a link and one word more for each of 32 places, and a wait's search through their values.
 ghost use mathlib.Core.Path.{_≡_};
 ghost use mathlib.Core.Bool.{true, _||_};
 ghost use mathlib.Core.List.{List};
-ghost use Prim.Native.Nat.{ℕ, _+_, _≤_, _<_, _/_, _%_, min};
-ghost use lib.Dec.{eqb};
+ghost use Prim.Native.Nat.{ℕ, _+_, _≤_, _<_, _/_, min};
 ghost use lib.ListN.{length, take, drop, getD, set};
 ghost use Rattle.bytes.specs.Choice.{pick};
 ghost use Rattle.state_places.specs.Sizes.{mostNotifications, heldAt};
+ghost use Rattle.state_counters.specs.Counters.{mostNotified};
 ghost use Rattle.lists.specs.Queue.{shifted};
 ghost use Rattle.lists.specs.Blocks.{bytes};
 ghost use Rattle.state.specs.Fresh.{noNotification};
-ghost use Rattle.notifications.specs.Kept.{live, heard, valuesFit, keeping};
-ghost use Rattle.notifications.specs.Wait.{any, starts, passes};
-ghost use Rattle.words.specs.Words.{two16, two56, notificationOf};
+ghost use Rattle.notifications.specs.Kept.{live, heard, valuesFit, linksFit, keeping};
+ghost use Rattle.notifications.specs.Wait.{any, starts, passes, newestCounted};
+ghost use Rattle.words.specs.Words.{two56, notificationOf};
 ghost use Rattle.words.specs.Tables as all;
 ghost use Rattle.words.specs.Tables.{notificationsIn};
 ghost use Rattle.words_notification.specs.Kept.{keptIn};
 ghost use Rattle.words_notification.specs.Search.{own, joined, stands, Ready};
 use notifications::Notification;
+use notifications::Wanted;
 use state_places::MAX_NOTIFICATIONS;
 use time::Micros;
 use words::NOTIFICATION;
 use words::NOTIFICATION_AT;
+use words::NOTIFICATION_LINK;
 
 // Where a word's fields begin: the handle has the 16 bits below the flag, the length has the top byte.
 const FLAG: u64 = 65_536;
@@ -41,9 +43,9 @@ fn bit(b: bool) -> u64
     0
 }
 
-// All but the time, in one word.
+// All but the time and the link, in one word.
 fn word_of(x: Notification) -> u64
-    ensures { λ r. ⌜ notificationOf (x .at .0) r ≡ x ⌝ }
+    ensures { λ r. ⌜ notificationOf (x .at .0) r (x .link) ≡ x ⌝ }
 {
     let handle = x.handle as u64;
     let flag = bit(x.indication);
@@ -60,7 +62,7 @@ fn length_in(word: u64) -> u8
 }
 
 // The notification in place i.
-pub fn notification_at(tables: &[u64; 1056], i: usize) -> Notification
+pub fn notification_at(tables: &[u64; 1152], i: usize) -> Notification
     requires { ⌜ i < mostNotifications ⌝ }
     ensures { λ r. ⌜ r ≡ getD (notificationsIn (now (tables .entry))) i noNotification ⌝ }
 {
@@ -68,6 +70,7 @@ pub fn notification_at(tables: &[u64; 1056], i: usize) -> Notification
     let q = NOTIFICATION + i;
     let at = tables[p];
     let word = tables[q];
+    let link = tables[NOTIFICATION_LINK + i];
     let handle = (word % FLAG) as u16;
     let len = length_in(word);
     let indication = word / FLAG % 2 == 1;
@@ -76,11 +79,12 @@ pub fn notification_at(tables: &[u64; 1056], i: usize) -> Notification
         handle,
         len,
         indication,
+        link,
     }
 }
 
 // x goes into place i.
-fn put_notification(tables: &mut [u64; 1056], i: usize, x: Notification)
+fn put_notification(tables: &mut [u64; 1152], i: usize, x: Notification)
     requires { ⌜ i < mostNotifications ⌝ }
     ensures { λ _. ⌜ all.tables (now (tables .exit)) ≡ all.withNotifications (all.tables (now (tables .entry))) (set (notificationsIn (now (tables .entry))) i x) ⌝ }
 {
@@ -89,20 +93,23 @@ fn put_notification(tables: &mut [u64; 1056], i: usize, x: Notification)
     let word = word_of(x);
     let p = NOTIFICATION_AT + i;
     let q = NOTIFICATION + i;
+    let r = NOTIFICATION_LINK + i;
     tables[p] = at.0;
     tables[q] = word;
+    tables[r] = x.link;
 }
 
 // The first goes, the others move down by one place, the last stays too.
-fn shift_notifications(tables: &mut [u64; 1056])
+fn shift_notifications(tables: &mut [u64; 1152])
     ensures { λ _. ⌜ all.tables (now (tables .exit)) ≡ all.withNotifications (all.tables (now (tables .entry))) (shifted (notificationsIn (now (tables .entry))) 31) ⌝ }
 {
     words::lower(tables, NOTIFICATION_AT, notifications::LAST);
     words::lower(tables, NOTIFICATION, notifications::LAST);
+    words::lower(tables, NOTIFICATION_LINK, notifications::LAST);
 }
 
 // One more, behind count others; where 32 are kept the oldest goes. How many are kept then.
-pub fn keep(tables: &mut [u64; 1056], count: usize, x: Notification) -> usize
+pub fn keep(tables: &mut [u64; 1152], count: usize, x: Notification) -> usize
     ensures { λ _. ⌜ all.tables (now (tables .exit)) ≡ all.withNotifications (all.tables (now (tables .entry))) (keeping (keptIn (now (tables .entry)) count) x .kept) ⌝ }
     ensures count { λ r. ⌜ r ≡ keeping (keptIn (now (tables .entry)) count) x .count ⌝ }
 {
@@ -117,7 +124,7 @@ pub fn keep(tables: &mut [u64; 1056], count: usize, x: Notification) -> usize
 }
 
 // Whether the value of each of the first count fits its place.
-pub fn values_fit(tables: &[u64; 1056], count: usize) -> bool
+pub fn values_fit(tables: &[u64; 1152], count: usize) -> bool
     requires { ⌜ count ≤ mostNotifications ⌝ }
     ensures { λ r. ⌜ r ≡ valuesFit (take count (notificationsIn (now (tables .entry)))) ⌝ }
 {
@@ -131,18 +138,32 @@ pub fn values_fit(tables: &[u64; 1056], count: usize) -> bool
     ok
 }
 
+// Whether none of the first count was heard on a link of a higher number.
+pub fn links_fit(tables: &[u64; 1152], count: usize, links: u64) -> bool
+    requires { ⌜ count ≤ mostNotifications ⌝ }
+    ensures { λ r. ⌜ r ≡ linksFit links (take count (notificationsIn (now (tables .entry)))) ⌝ }
+{
+    let mut ok = true;
+    let mut i = 0;
+    while i < count {
+        let p = NOTIFICATION_LINK + i;
+        ok = ok & (tables[p] <= links);
+        i += 1;
+    }
+    ok
+}
+
 // ---- a wait's search
 
-// Whether one of the handle is kept, from place skip on.
-fn is_any(tables: &[u64; 1056], count: usize, skip: usize, handle: u16) -> bool
+// Whether one that counts is kept, from place skip on.
+fn is_any(tables: &[u64; 1152], count: usize, skip: usize, wanted: Wanted) -> bool
     requires { ⌜ count ≤ mostNotifications ⌝ }
-    ensures { λ r. ⌜ ((s : List ℕ) → r ≡ any handle (drop skip (heard s (live (keptIn (now (tables .entry)) count))))) ⌝ }
+    ensures { λ r. ⌜ ((s : List ℕ) → r ≡ any wanted (drop skip (heard s (live (keptIn (now (tables .entry)) count))))) ⌝ }
 {
-    let sought = handle as u64;
     let mut i = skip;
     while i < count {
-        let p = NOTIFICATION + i;
-        if tables[p] % FLAG == sought {
+        let x = notification_at(tables, i);
+        if notifications::does_count(wanted, x) {
             return true;
         }
         i += 1;
@@ -150,27 +171,50 @@ fn is_any(tables: &[u64; 1056], count: usize, skip: usize, handle: u16) -> bool
     false
 }
 
-// How many bytes the value has that a word tells of; none if it is of another handle.
-fn own_size(word: u64, handle: u16) -> usize
-    ensures { λ r. ⌜ r ≡ pick (eqb (word % two16) handle) (word / two56) 0 ⌝ }
+// One past the number of the newest that counts, from place skip on; place 0 has number first. 0 where none counts.
+pub fn newest_counted(
+    tables: &[u64; 1152],
+    count: usize,
+    skip: usize,
+    first: u64,
+    wanted: Wanted,
+) -> u64
+    requires { ⌜ (count ≤ mostNotifications) × (first ≤ mostNotified) ⌝ }
+    ensures { λ r. ⌜ r ≡ newestCounted wanted (first + skip) 0 (drop skip (live (keptIn (now (tables .entry)) count))) ⌝ }
 {
-    if word % FLAG == handle as u64 {
-        return (word / LENGTH) as usize;
+    let mut newest = 0;
+    let mut i = skip;
+    while i < count {
+        let x = notification_at(tables, i);
+        if notifications::does_count(wanted, x) {
+            newest = first + i as u64 + 1;
+        }
+        i += 1;
+    }
+    newest
+}
+
+// How many bytes the value in place i has; none if it does not count.
+fn own_size(tables: &[u64; 1152], i: usize, wanted: Wanted) -> usize
+    requires { ⌜ i < mostNotifications ⌝ }
+    ensures { λ r. ⌜ r ≡ own wanted (now (tables .entry)) i ⌝ }
+{
+    let own = notification_at(tables, i);
+    if notifications::does_count(wanted, own) {
+        return own.len as usize;
     }
     0
 }
 
-// How many bytes the values of the handle have together, from place skip on.
-fn joined_size(tables: &[u64; 1056], count: usize, skip: usize, handle: u16) -> usize
+// How many bytes the values of those that count have together, from place skip on.
+fn joined_size(tables: &[u64; 1152], count: usize, skip: usize, wanted: Wanted) -> usize
     requires { ⌜ (count ≤ mostNotifications) × (valuesFit (live (keptIn (now tables) count)) ≡ true) ⌝ }
-    ensures { λ r. ⌜ ((s : List ℕ) → heldAt ≤ length s → r ≡ length (joined handle (now (tables .entry)) s count skip)) ⌝ }
+    ensures { λ r. ⌜ ((s : List ℕ) → heldAt ≤ length s → r ≡ length (joined wanted (now (tables .entry)) s count skip)) ⌝ }
 {
     let mut n = 0;
     let mut i = skip;
     while i < count {
-        let p = NOTIFICATION + i;
-        let word = tables[p];
-        let size = own_size(word, handle);
+        let size = own_size(tables, i, wanted);
         n += size;
         i += 1;
     }
@@ -204,25 +248,23 @@ fn are_equal(store: &[u8], p: usize, q: usize, n: usize) -> bool
 // Whether the values go on, from byte `from` of place `first` on, with the m bytes of the store from at on but the first.
 // There are enough bytes left. It goes from value to value and compares what each has of them.
 fn goes_on(
-    tables: &[u64; 1056],
+    tables: &[u64; 1152],
     count: usize,
-    handle: u16,
+    wanted: Wanted,
     store: &[u8],
     first: usize,
     from: usize,
     at: usize,
     m: usize,
 ) -> bool
-    requires { ⌜ Ready (now tables) count (now store) at m × (from ≤ own handle (now tables) first) × (m ≤ length (drop from (joined handle (now tables) (now store) count first)) + 1) ⌝ }
-    ensures { λ r. ⌜ r ≡ starts (drop 1 (bytes (now (store .entry)) at m)) (drop from (joined handle (now (tables .entry)) (now (store .entry)) count first)) ⌝ }
+    requires { ⌜ Ready (now tables) count (now store) at m × (from ≤ own wanted (now tables) first) × (m ≤ length (drop from (joined wanted (now tables) (now store) count first)) + 1) ⌝ }
+    ensures { λ r. ⌜ r ≡ starts (drop 1 (bytes (now (store .entry)) at m)) (drop from (joined wanted (now (tables .entry)) (now (store .entry)) count first)) ⌝ }
 {
     let mut i = first;
     let mut o = from;
     let mut j = 1;
     while j < m {
-        let p = NOTIFICATION + i;
-        let word = tables[p];
-        let size = own_size(word, handle);
+        let size = own_size(tables, i, wanted);
         let n = least(size - o, m - j);
         let place = state_places::notification_at(i) + o;
         if !are_equal(store, place, at + j, n) {
@@ -237,24 +279,24 @@ fn goes_on(
 
 // Whether the m bytes of the store from at on begin at one of the first bytes, `tries` of them, of the value in place i.
 fn begins_in(
-    tables: &[u64; 1056],
+    tables: &[u64; 1152],
     count: usize,
-    handle: u16,
+    wanted: Wanted,
     store: &[u8],
     i: usize,
     tries: usize,
     at: usize,
     m: usize,
 ) -> bool
-    requires { ⌜ Ready (now tables) count (now store) at m × (i < count) × (tries ≤ own handle (now tables) i) × (tries + m ≤ length (joined handle (now tables) (now store) count i) + 1) ⌝ }
-    ensures { λ r. ⌜ stands handle (now (tables .entry)) (now (store .entry)) count i 0 at m ≡ (r || stands handle (now (tables .entry)) (now (store .entry)) count i tries at m) ⌝ }
+    requires { ⌜ Ready (now tables) count (now store) at m × (i < count) × (tries ≤ own wanted (now tables) i) × (tries + m ≤ length (joined wanted (now tables) (now store) count i) + 1) ⌝ }
+    ensures { λ r. ⌜ stands wanted (now (tables .entry)) (now (store .entry)) count i 0 at m ≡ (r || stands wanted (now (tables .entry)) (now (store .entry)) count i tries at m) ⌝ }
 {
     let place = state_places::notification_at(i);
     let b = store[at];
     let mut k = 0;
     while k < tries {
         if store[place + k] == b {
-            if goes_on(tables, count, handle, store, i, k + 1, at, m) {
+            if goes_on(tables, count, wanted, store, i, k + 1, at, m) {
                 return true;
             }
         }
@@ -263,27 +305,25 @@ fn begins_in(
     false
 }
 
-// Whether the joined values of the handle, from place skip on, contain the m bytes of the store from at on.
+// Whether the joined values of those that count, from place skip on, contain the m bytes of the store from at on.
 fn is_found(
-    tables: &[u64; 1056],
+    tables: &[u64; 1152],
     count: usize,
     skip: usize,
-    handle: u16,
+    wanted: Wanted,
     store: &[u8],
     at: usize,
     m: usize,
 ) -> bool
     requires { ⌜ Ready (now tables) count (now store) at m ⌝ }
-    ensures { λ r. ⌜ r ≡ stands handle (now (tables .entry)) (now (store .entry)) count skip 0 at m ⌝ }
+    ensures { λ r. ⌜ r ≡ stands wanted (now (tables .entry)) (now (store .entry)) count skip 0 at m ⌝ }
 {
-    let mut rest = joined_size(tables, count, skip, handle);
+    let mut rest = joined_size(tables, count, skip, wanted);
     let mut i = skip;
     while m <= rest {
-        let p = NOTIFICATION + i;
-        let word = tables[p];
-        let size = own_size(word, handle);
+        let size = own_size(tables, i, wanted);
         let tries = least(size, rest - (m - 1));
-        if begins_in(tables, count, handle, store, i, tries, at, m) {
+        if begins_in(tables, count, wanted, store, i, tries, at, m) {
             return true;
         }
         rest -= size;
@@ -292,21 +332,21 @@ fn is_found(
     false
 }
 
-// Whether a wait for the handle passes on those from place skip on: its `contains` is the len bytes of the store from at on.
+// Whether a wait passes on those from place skip on: its `contains` is the len bytes of the store from at on.
 pub fn wait_passes(
-    tables: &[u64; 1056],
+    tables: &[u64; 1152],
     count: usize,
     skip: usize,
-    handle: u16,
+    wanted: Wanted,
     store: &[u8],
     at: usize,
     len: usize,
 ) -> bool
     requires { ⌜ (count ≤ mostNotifications) × (valuesFit (live (keptIn (now tables) count)) ≡ true) × (heldAt ≤ length (now store)) × (at + len ≤ length (now store)) ⌝ }
-    ensures { λ r. ⌜ r ≡ passes handle (drop skip (heard (now (store .entry)) (live (keptIn (now (tables .entry)) count)))) (bytes (now (store .entry)) at len) ⌝ }
+    ensures { λ r. ⌜ r ≡ passes wanted (drop skip (heard (now (store .entry)) (live (keptIn (now (tables .entry)) count)))) (bytes (now (store .entry)) at len) ⌝ }
 {
     if len == 0 {
-        return is_any(tables, count, skip, handle);
+        return is_any(tables, count, skip, wanted);
     }
-    is_found(tables, count, skip, handle, store, at, len)
+    is_found(tables, count, skip, wanted, store, at, len)
 }

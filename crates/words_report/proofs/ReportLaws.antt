@@ -99,21 +99,21 @@ module _ (w : List ℕ) (i : ℕ) (h : i < 64) where
 
 -- ---- all tables: v has the words of w but those of the reports, and reads who and heard there
 
-alone : (w v : List ℕ) (l : List ℕ) (h : Heard) → Same 0 736 w v → Same 928 1056 w v → whoIn v ≡ l → heardIn v ≡ h → tables v ≡ withReports (tables w) l h
+alone : (w v : List ℕ) (l : List ℕ) (h : Heard) → Same 0 736 w v → Same 928 1152 w v → whoIn v ≡ l → heardIn v ≡ h → tables v ≡ withReports (tables w) l h
 alone w v l h below above e f =
     rw (
       steps-same w v (λ p a b. below p (omega arith) (omega arith)),
-      results-same w v (λ p a b. below p (omega arith) (omega arith)),
+      results-same w v (λ p a b. below p (omega arith) (omega arith)) (λ p a b. above p (omega arith) (omega arith)),
       services-same w v (λ p a b. below p (omega arith) (omega arith)),
       characteristics-same w v (λ p a b. below p (omega arith) (omega arith)),
-      notifications-same w v (λ p a b. below p (omega arith) (omega arith)),
-      keys-same w v above,
+      notifications-same w v (λ p a b. below p (omega arith) (omega arith)) (λ p a b. above p (omega arith) (omega arith)),
+      keys-same w v (λ p a b. above p a (omega arith)),
       e,
       f,
     )
 
 -- three words put
-module _ (w : List ℕ) (i who t n : ℕ) (long : length w ≡ 1056) (b : i < 64) where
+module _ (w : List ℕ) (i who t n : ℕ) (long : length w ≡ 1152) (b : i < 64) where
   abbrev with : List ℕ
   with = set (set (set w (736 + i) who) (800 + i) t) (864 + i) n
 
@@ -131,13 +131,13 @@ module _ (w : List ℕ) (i who t n : ℕ) (long : length w ≡ 1056) (b : i < 64
 
   second : getD with (800 + i) 0 ≡ t
   second =
-      let l : length (set w (736 + i) who) ≡ 1056 = length-set w (736 + i) who ∙ long in
+      let l : length (set w (736 + i) who) ≡ 1152 = length-set w (736 + i) who ∙ long in
       getD-set-other (set (set w (736 + i) who) (800 + i) t) (864 + i) (800 + i) n 0 (λ e. omega arith)
       ∙ getD-set-same (set w (736 + i) who) (800 + i) t 0 (omega arith)
 
   third : getD with (864 + i) 0 ≡ n
   third =
-      let l : length (set (set w (736 + i) who) (800 + i) t) ≡ 1056 = length-set (set w (736 + i) who) (800 + i) t ∙ length-set w (736 + i) who ∙ long in
+      let l : length (set (set w (736 + i) who) (800 + i) t) ≡ 1152 = length-set (set w (736 + i) who) (800 + i) t ∙ length-set w (736 + i) who ∙ long in
       getD-set-same (set (set w (736 + i) who) (800 + i) t) (864 + i) n 0 (omega arith)
 
   who-there : whoIn with ≡ set (whoIn w) i who
@@ -177,7 +177,7 @@ module _ (w : List ℕ) (i who t n : ℕ) (long : length w ≡ 1056) (b : i < 64
       (who-there ∙ ap (λ (y : ℕ). set (whoIn w) i y) e)
       (heard-there x f s)
 
-pub put-law : (w : List ℕ) (i n : ℕ) (x : Report) → length w ≡ 1056 → i < 64 → Says n x
+pub put-law : (w : List ℕ) (i n : ℕ) (x : Report) → length w ≡ 1152 → i < 64 → Says n x
     → tables (set (set (set w (736 + i) (x .who)) (800 + i) (x .at .0)) (864 + i) n) ≡ reportPut (tables w) i x
 put-law w i n x l b s = put-there w i (x .who) (x .at .0) n l b x refl refl s
 
@@ -225,7 +225,7 @@ module _ (w v u o : List ℕ) (d : Lowered w v 736 63) (g : Lowered v u 800 63) 
 
 -- ---- a key put
 
-pub key-law : (w : List ℕ) (i k : ℕ) → length w ≡ 1056 → i < 128 → tables (set w (928 + i) k) ≡ withKeys (tables w) (set (keysIn w) i k)
+pub key-law : (w : List ℕ) (i k : ℕ) → length w ≡ 1152 → i < 128 → tables (set w (928 + i) k) ≡ withKeys (tables w) (set (keysIn w) i k)
 unfolding keysIn
 key-law w i k long b =
     let v : List ℕ = set w (928 + i) k in
@@ -234,10 +234,10 @@ key-law w i k long b =
     table-set 128 (λ j. word v 928 j) (λ j. word w 928 j) i k b (getD-set-same w (928 + i) k 0 (omega arith)) (λ j h n. other (928 + j) (λ q. n (omega arith))) in
     rw (
       steps-same w v (λ p a c. other p (λ n. omega arith)),
-      results-same w v (λ p a c. other p (λ n. omega arith)),
+      results-same w v (λ p a c. other p (λ n. omega arith)) (λ p a c. other p (λ n. omega arith)),
       services-same w v (λ p a c. other p (λ n. omega arith)),
       characteristics-same w v (λ p a c. other p (λ n. omega arith)),
-      notifications-same w v (λ p a c. other p (λ n. omega arith)),
+      notifications-same w v (λ p a c. other p (λ n. omega arith)) (λ p a c. other p (λ n. omega arith)),
       who-same w v (λ p a c. other p (λ n. omega arith)),
       heard-same w v (λ p a c. other p (λ n. omega arith)),
       e,

@@ -85,7 +85,7 @@ fn response_in(word: u64) -> u8
 }
 
 // The report in place i.
-pub fn report_at(tables: &[u64; 1056], i: usize) -> Report
+pub fn report_at(tables: &[u64; 1152], i: usize) -> Report
     requires { ⌜ i < mostReports ⌝ }
     ensures { λ r. ⌜ r ≡ reportIn (all.tables (now (tables .entry))) i ⌝ }
     ensures short { λ r. ⌜ (r .len ≤ dataSize) × (r .response ≤ noResponse) ⌝ }
@@ -111,7 +111,7 @@ pub fn report_at(tables: &[u64; 1056], i: usize) -> Report
 }
 
 // x goes into place i.
-pub fn put_report(tables: &mut [u64; 1056], i: usize, x: Report)
+pub fn put_report(tables: &mut [u64; 1152], i: usize, x: Report)
     requires { ⌜ (i < mostReports) × (x .len ≤ dataSize) × (x .response ≤ noResponse) ⌝ }
     ensures { λ _. ⌜ all.tables (now (tables .exit)) ≡ reportPut (all.tables (now (tables .entry))) i x ⌝ }
 {
@@ -129,7 +129,7 @@ pub fn put_report(tables: &mut [u64; 1056], i: usize, x: Report)
 // ---- all reports
 
 // The first goes, the others move down by one place, the last stays too.
-pub fn shift_reports(tables: &mut [u64; 1056])
+pub fn shift_reports(tables: &mut [u64; 1152])
     ensures { λ _. ⌜ all.tables (now (tables .exit)) ≡ reportsDown (all.tables (now (tables .entry))) ⌝ }
 {
     words::lower(tables, REPORT_WHO, adv_reports::LAST);
@@ -138,7 +138,7 @@ pub fn shift_reports(tables: &mut [u64; 1056])
 }
 
 // Where the first report of an advertiser is, or count.
-pub fn find_report(tables: &[u64; 1056], count: usize, key: u64) -> usize
+pub fn find_report(tables: &[u64; 1152], count: usize, key: u64) -> usize
     requires { ⌜ count ≤ mostReports ⌝ }
     ensures { λ r. ⌜ (r ≡ seek key (take count (whoIn (now (tables .entry))))) × (r ≤ count) ⌝ }
 {
@@ -156,7 +156,7 @@ pub fn find_report(tables: &[u64; 1056], count: usize, key: u64) -> usize
 // ---- the advertisers that were asked
 
 // Whether the advertiser is to be asked: if any is, and it has not been.
-pub fn is_due(asks: bool, tables: &[u64; 1056], count: usize, key: u64) -> bool
+pub fn is_due(asks: bool, tables: &[u64; 1152], count: usize, key: u64) -> bool
     requires { ⌜ count ≤ mostKeys ⌝ }
     ensures { λ r. ⌜ r ≡ (asks && not (among key (take count (keysIn (now (tables .entry)))))) ⌝ }
 {
@@ -175,7 +175,7 @@ pub fn is_due(asks: bool, tables: &[u64; 1056], count: usize, key: u64) -> bool
 }
 
 // The advertiser goes into place i.
-pub fn put_key(tables: &mut [u64; 1056], i: usize, key: u64)
+pub fn put_key(tables: &mut [u64; 1152], i: usize, key: u64)
     requires { ⌜ i < mostKeys ⌝ }
     ensures { λ _. ⌜ all.tables (now (tables .exit)) ≡ all.withKeys (all.tables (now (tables .entry))) (set (keysIn (now (tables .entry))) i key) ⌝ }
 {

@@ -35,7 +35,7 @@ error-read s e x h g =
     rw (a, b, g)
 
 pub word-read : (r : StepResult) (b x : ℕ) → statusOf (b % 256) (b / 256) ≡ r .status → b < 65536 → r .index < 4294967296
-    → x ≡ r .index + 4294967296 * b + 72057594037927936 * r .len → resultOf (r .at .0) x ≡ r
+    → x ≡ r .index + 4294967296 * b + 72057594037927936 * r .len → resultOf (r .at .0) x (r .heard) ≡ r
 unfolding resultOf
 word-read r b x s l i h =
     let f : x % 4294967296 ≡ r .index = omega (arith, h, i) in
@@ -49,84 +49,97 @@ word-read r b x s l i h =
 -- ---- the table
 
 -- where the words of no other table change
-only-results : (w v : List ℕ) (l : List StepResult) → resultsIn v ≡ l → Same 0 256 w v → Same 384 1056 w v → tables v ≡ withResults (tables w) l
+only-results : (w v : List ℕ) (l : List StepResult) → resultsIn v ≡ l → Same 0 256 w v → Same 384 1088 w v → tables v ≡ withResults (tables w) l
 only-results w v l e low high =
     rw (
       e,
       row.steps-same w v low,
       row.services-same w v (λ p a b. high p a (omega arith)),
       row.characteristics-same w v (λ p a b. high p (omega arith) (omega arith)),
-      row.notifications-same w v (λ p a b. high p (omega arith) (omega arith)),
+      row.notifications-same w v (λ p a b. high p (omega arith) (omega arith)) (λ p a b. high p (omega arith) b),
       row.who-same w v (λ p a b. high p (omega arith) (omega arith)),
       row.heard-same w v (λ p a b. high p (omega arith) (omega arith)),
-      row.keys-same w v (λ p a b. high p (omega arith) b),
+      row.keys-same w v (λ p a b. high p (omega arith) (omega arith)),
     )
 
--- two words put: the place has them, and every other word is as it was
-module _ (w : List ℕ) (i t x : ℕ) (long : length w ≡ 1056) (b : i < 64) where
+-- what the words of place k say
+abbrev placed : List ℕ → ℕ → StepResult
+placed w k = resultOf (word w 256 k) (word w 320 k) (word w 1088 k)
+
+-- three words put: the place has them, and every other word is as it was
+module _ (w : List ℕ) (i t x heard : ℕ) (long : length w ≡ 1152) (b : i < 64) where
   abbrev with : List ℕ
-  with = set (set w (256 + i) t) (320 + i) x
+  with = set (set (set w (256 + i) t) (320 + i) x) (1088 + i) heard
 
-  other : (p : ℕ) → (p ≡ 256 + i → ⊥) → (p ≡ 320 + i → ⊥) → getD with p 0 ≡ getD w p 0
-  other p m n = getD-set-other (set w (256 + i) t) (320 + i) p x 0 n ∙ getD-set-other w (256 + i) p t 0 m
+  other : (p : ℕ) → (p ≡ 256 + i → ⊥) → (p ≡ 320 + i → ⊥) → (p ≡ 1088 + i → ⊥) → getD with p 0 ≡ getD w p 0
+  other p n₀ n₁ n₂ =
+      getD-set-other (set (set w (256 + i) t) (320 + i) x) (1088 + i) p heard 0 n₂
+      ∙ getD-set-other (set w (256 + i) t) (320 + i) p x 0 n₁
+      ∙ getD-set-other w (256 + i) p t 0 n₀
 
-  there : resultOf (word with 256 i) (word with 320 i) ≡ resultOf t x
+  there : placed with i ≡ resultOf t x heard
   there =
-      let l : length (set w (256 + i) t) ≡ 1056 = length-set w (256 + i) t ∙ long in
-      let e : getD with (256 + i) 0 ≡ t =
-      getD-set-other (set w (256 + i) t) (320 + i) (256 + i) x 0 (λ q. omega arith) ∙ getD-set-same w (256 + i) t 0 (omega arith) in
-      let f : getD with (320 + i) 0 ≡ x = getD-set-same (set w (256 + i) t) (320 + i) x 0 (omega arith) in
-      rw (e, f)
+      let w₁ : List ℕ = set w (256 + i) t in
+      let w₂ : List ℕ = set w₁ (320 + i) x in
+      let l₁ : length w₁ ≡ 1152 = length-set w (256 + i) t ∙ long in
+      let l₂ : length w₂ ≡ 1152 = length-set w₁ (320 + i) x ∙ l₁ in
+      let e₀ : getD with (256 + i) 0 ≡ t =
+      getD-set-other w₂ (1088 + i) (256 + i) heard 0 (λ e. omega arith)
+      ∙ getD-set-other w₁ (320 + i) (256 + i) x 0 (λ e. omega arith)
+      ∙ getD-set-same w (256 + i) t 0 (omega arith) in
+      let e₁ : getD with (320 + i) 0 ≡ x =
+      getD-set-other w₂ (1088 + i) (320 + i) heard 0 (λ e. omega arith) ∙ getD-set-same w₁ (320 + i) x 0 (omega arith) in
+      let e₂ : getD with (1088 + i) 0 ≡ heard = getD-set-same w₂ (1088 + i) heard 0 (omega arith) in
+      rw (e₀, e₁, e₂)
 
-  elsewhere : (k : ℕ) → k < 64 → (k ≡ i → ⊥) → resultOf (word with 256 k) (word with 320 k) ≡ resultOf (word w 256 k) (word w 320 k)
+  elsewhere : (k : ℕ) → k < 64 → (k ≡ i → ⊥) → placed with k ≡ placed w k
   elsewhere k h n =
       rw (
-        other (256 + k) (λ e. n (omega arith)) (λ e. omega arith),
-        other (320 + k) (λ e. omega arith) (λ e. n (omega arith)),
+        other (256 + k) (λ e. n (omega arith)) (λ e. omega arith) (λ e. omega arith),
+        other (320 + k) (λ e. omega arith) (λ e. n (omega arith)) (λ e. omega arith),
+        other (1088 + k) (λ e. omega arith) (λ e. omega arith) (λ e. n (omega arith)),
       )
 
-  put-read : resultsIn with ≡ set (resultsIn w) i (resultOf t x)
+  put-read : resultsIn with ≡ set (resultsIn w) i (resultOf t x heard)
   unfolding resultsIn
-  put-read =
-      table-set 64 (λ k. resultOf (word with 256 k) (word with 320 k)) (λ k. resultOf (word w 256 k) (word w 320 k)) i (resultOf t x) b
-      there elsewhere
+  put-read = table-set 64 (λ k. placed with k) (λ k. placed w k) i (resultOf t x heard) b there elsewhere
 
-  pub put-law : (r : StepResult) → resultOf t x ≡ r → tables with ≡ withResults (tables w) (set (resultsIn w) i r)
+  pub put-law : (r : StepResult) → resultOf t x heard ≡ r → tables with ≡ withResults (tables w) (set (resultsIn w) i r)
   put-law r e =
       only-results w with (set (resultsIn w) i r) (put-read ∙ ap (λ (y : StepResult). set (resultsIn w) i y) e)
-      (λ p h k. other p (λ q. omega arith) (λ q. omega arith))
-      (λ p h k. other p (λ q. omega arith) (λ q. omega arith))
+      (λ p h k. other p (λ q. omega arith) (λ q. omega arith) (λ q. omega arith))
+      (λ p h k. other p (λ q. omega arith) (λ q. omega arith) (λ q. omega arith))
 
--- both rows move down by one
-module _ (w v u : List ℕ) (d : Lowered w v 256 63) (e : Lowered v u 320 63) where
-  moved-down : (k : ℕ) → k < 63 → resultOf (word u 256 k) (word u 320 k) ≡ resultOf (word w 256 (k + 1)) (word w 320 (k + 1))
+-- three rows move down by one
+module _ (w v u o : List ℕ) (d : Lowered w v 256 63) (e : Lowered v u 320 63) (f : Lowered u o 1088 63) where
+  moved-down : (k : ℕ) → k < 63 → placed o k ≡ placed w (k + 1)
   moved-down k h =
-      let a : 256 + k + 1 ≡ 256 + (k + 1) = omega arith in
-      let b : 320 + k + 1 ≡ 320 + (k + 1) = omega arith in
-      let f : getD u (256 + k) 0 ≡ getD w (256 + (k + 1)) 0 =
-      e .below (256 + k) (omega arith) ∙ d .moved (256 + k) (omega arith) (omega arith) ∙ ap (λ (p : ℕ). getD w p 0) a in
-      let g : getD u (320 + k) 0 ≡ getD w (320 + (k + 1)) 0 =
-      e .moved (320 + k) (omega arith) (omega arith) ∙ d .above (320 + k + 1) (omega arith) ∙ ap (λ (p : ℕ). getD w p 0) b in
-      rw (f, g)
+      let at : (r : ℕ) → getD w (r + k + 1) 0 ≡ word w r (k + 1) = λ r. let g : r + k + 1 ≡ r + (k + 1) = omega arith in ap (λ (p : ℕ). getD w p 0) g in
+      let e₀ : word o 256 k ≡ word w 256 (k + 1) =
+      f .below (256 + k) (omega arith) ∙ e .below (256 + k) (omega arith) ∙ d .moved (256 + k) (omega arith) (omega arith) ∙ at 256 in
+      let e₁ : word o 320 k ≡ word w 320 (k + 1) =
+      f .below (320 + k) (omega arith) ∙ e .moved (320 + k) (omega arith) (omega arith) ∙ d .above (320 + k + 1) (omega arith) ∙ at 320 in
+      let e₂ : word o 1088 k ≡ word w 1088 (k + 1) =
+      f .moved (1088 + k) (omega arith) (omega arith) ∙ e .above (1088 + k + 1) (omega arith) ∙ d .above (1088 + k + 1) (omega arith) ∙ at 1088 in
+      rw (e₀, e₁, e₂)
 
-  last-same : (k : ℕ) → 63 ≤ k → k < 64 → resultOf (word u 256 k) (word u 320 k) ≡ resultOf (word w 256 k) (word w 320 k)
+  last-same : (k : ℕ) → 63 ≤ k → k < 64 → placed o k ≡ placed w k
   last-same k h l =
       rw (
-        e .below (256 + k) (omega arith) ∙ d .above (256 + k) (omega arith),
-        e .above (320 + k) (omega arith) ∙ d .above (320 + k) (omega arith),
+        f .below (256 + k) (omega arith) ∙ e .below (256 + k) (omega arith) ∙ d .above (256 + k) (omega arith),
+        f .below (320 + k) (omega arith) ∙ e .above (320 + k) (omega arith) ∙ d .above (320 + k) (omega arith),
+        f .above (1088 + k) (omega arith) ∙ e .above (1088 + k) (omega arith) ∙ d .above (1088 + k) (omega arith),
       )
 
-  shift-read : resultsIn u ≡ shifted (resultsIn w) 63
+  shift-read : resultsIn o ≡ shifted (resultsIn w) 63
   unfolding resultsIn
-  shift-read =
-      table-lowered 64 63 (λ k. resultOf (word u 256 k) (word u 320 k)) (λ k. resultOf (word w 256 k) (word w 320 k)) (omega arith)
-      moved-down last-same
+  shift-read = table-lowered 64 63 (λ k. placed o k) (λ k. placed w k) (omega arith) moved-down last-same
 
-  pub shift-law : tables u ≡ withResults (tables w) (shifted (resultsIn w) 63)
+  pub shift-law : tables o ≡ withResults (tables w) (shifted (resultsIn w) 63)
   shift-law =
-      only-results w u (shifted (resultsIn w) 63) shift-read
-      (λ p h k. e .below p (omega arith) ∙ d .below p k)
-      (λ p h k. e .above p (omega arith) ∙ d .above p (omega arith))
+      only-results w o (shifted (resultsIn w) 63) shift-read
+      (λ p h k. f .below p (omega arith) ∙ e .below p (omega arith) ∙ d .below p k)
+      (λ p h k. f .below p (omega arith) ∙ e .above p (omega arith) ∙ d .above p (omega arith))
 
 -- ---- one more
 

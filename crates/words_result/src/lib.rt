@@ -1,4 +1,4 @@
-// The kept results in the tables' words: the time of each in one row, all else of it in another.
+// The kept results in the tables' words: the time of each in one row, what it heard in another, all else in a third.
 ghost use mathlib.Core.Path.{_≡_};
 ghost use Prim.Native.Nat.{_+_, _*_, _/_, _%_, _≤_, _<_};
 ghost use lib.ListN.{getD, set, take};
@@ -59,9 +59,9 @@ fn status_bits(s: StepStatus) -> u64
     }
 }
 
-// All of a result but its time.
+// All of a result but its time and what it heard.
 fn word_of(r: StepResult) -> u64
-    ensures { λ x. ⌜ resultOf (r .at .0) x ≡ r ⌝ }
+    ensures { λ x. ⌜ resultOf (r .at .0) x (r .heard) ≡ r ⌝ }
 {
     let index = r.index as u64;
     let status = r.status;
@@ -94,8 +94,8 @@ fn length_of(word: u64) -> u8
     (word / LENGTH) as u8
 }
 
-fn result_of(at: Micros, word: u64) -> StepResult
-    ensures { λ r. ⌜ r ≡ resultOf (at .0) word ⌝ }
+fn result_of(at: Micros, word: u64, heard: u64) -> StepResult
+    ensures { λ r. ⌜ r ≡ resultOf (at .0) word heard ⌝ }
 {
     let index = (word % STATUS) as u32;
     let kind = (word / STATUS % BYTE) as u8;
@@ -107,23 +107,25 @@ fn result_of(at: Micros, word: u64) -> StepResult
         at,
         status,
         len,
+        heard,
     }
 }
 
 // ---- the table
 
 // The result in place i.
-pub fn result_at(tables: &[u64; 1056], i: usize) -> StepResult
+pub fn result_at(tables: &[u64; 1152], i: usize) -> StepResult
     requires { ⌜ i < mostResults ⌝ }
     ensures { λ r. ⌜ r ≡ getD (resultsIn (now (tables .entry))) i noResult ⌝ }
 {
     let at = Micros(tables[words::RESULT_AT + i]);
     let word = tables[words::RESULT + i];
-    result_of(at, word)
+    let heard = tables[words::RESULT_HEARD + i];
+    result_of(at, word, heard)
 }
 
 // A result goes into place i.
-fn put_result(tables: &mut [u64; 1056], i: usize, r: StepResult)
+fn put_result(tables: &mut [u64; 1152], i: usize, r: StepResult)
     requires { ⌜ i < mostResults ⌝ }
     ensures { λ _. ⌜ all.tables (now (tables .exit)) ≡ all.withResults (all.tables (now (tables .entry))) (set (resultsIn (now (tables .entry))) i r) ⌝ }
 {
@@ -132,20 +134,23 @@ fn put_result(tables: &mut [u64; 1056], i: usize, r: StepResult)
     let word = word_of(r);
     let p = words::RESULT_AT + i;
     let q = words::RESULT + i;
+    let h = words::RESULT_HEARD + i;
     tables[p] = at.0;
     tables[q] = word;
+    tables[h] = r.heard;
 }
 
 // The oldest result goes, the others move down by one.
-fn shift_results(tables: &mut [u64; 1056])
+fn shift_results(tables: &mut [u64; 1152])
     ensures { λ _. ⌜ all.tables (now (tables .exit)) ≡ all.withResults (all.tables (now (tables .entry))) (shifted (resultsIn (now (tables .entry))) 63) ⌝ }
 {
     words::lower(tables, words::RESULT_AT, LAST);
     words::lower(tables, words::RESULT, LAST);
+    words::lower(tables, words::RESULT_HEARD, LAST);
 }
 
 // Keeps one result more, behind count others, and returns how many there are then: where all places are taken, the oldest goes.
-pub fn push_result(tables: &mut [u64; 1056], count: usize, r: StepResult) -> usize
+pub fn push_result(tables: &mut [u64; 1152], count: usize, r: StepResult) -> usize
     requires { ⌜ count ≤ mostResults ⌝ }
     ensures { λ n.
         ⌜ (all.tables (now (tables .exit)) ≡ all.withResults (all.tables (now (tables .entry))) (pushedResult (resultsAs (now (tables .entry)) count) r .kept))
@@ -162,7 +167,7 @@ pub fn push_result(tables: &mut [u64; 1056], count: usize, r: StepResult) -> usi
 }
 
 // Whether the value of each of the first count results fits its place.
-pub fn results_fit(tables: &[u64; 1056], count: usize) -> bool
+pub fn results_fit(tables: &[u64; 1152], count: usize) -> bool
     requires { ⌜ count ≤ mostResults ⌝ }
     ensures { λ r. ⌜ r ≡ resultsFit (take count (resultsIn (now (tables .entry)))) ⌝ }
 {

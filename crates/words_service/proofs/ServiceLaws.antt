@@ -30,7 +30,7 @@ unfolding serviceOf
 service-read w i h = sym (service-at w i h)
 
 -- three words put: the place has them, and every other word is as it was
-module _ (w : List ℕ) (i low high x : ℕ) (long : length w ≡ 1056) (b : i < 32) where
+module _ (w : List ℕ) (i low high x : ℕ) (long : length w ≡ 1152) (b : i < 32) where
   abbrev with : List ℕ
   with = set (set (set w (384 + i) low) (416 + i) high) (448 + i) x
 
@@ -50,8 +50,8 @@ module _ (w : List ℕ) (i low high x : ℕ) (long : length w ≡ 1056) (b : i <
   there =
       let w₁ : List ℕ = set w (384 + i) low in
       let w₂ : List ℕ = set w₁ (416 + i) high in
-      let l₁ : length w₁ ≡ 1056 = length-set w (384 + i) low ∙ long in
-      let l₂ : length w₂ ≡ 1056 = length-set w₁ (416 + i) high ∙ l₁ in
+      let l₁ : length w₁ ≡ 1152 = length-set w (384 + i) low ∙ long in
+      let l₂ : length w₂ ≡ 1152 = length-set w₁ (416 + i) high ∙ l₁ in
       let e₀ : getD with (384 + i) 0 ≡ low =
       getD-set-other w₂ (448 + i) (384 + i) x 0 (λ e. omega arith)
       ∙ getD-set-other w₁ (416 + i) (384 + i) high 0 (λ e. omega arith)
@@ -80,16 +80,16 @@ module _ (w : List ℕ) (i low high x : ℕ) (long : length w ≡ 1056) (b : i <
   words-put =
       rw (
         steps-same w with (below 0 256 (omega arith)),
-        results-same w with (below 256 384 (omega arith)),
+        results-same w with (below 256 384 (omega arith)) (above 1088 1152 (omega arith)),
         services-set,
         characteristics-same w with (above 480 672 (omega arith)),
-        notifications-same w with (above 672 736 (omega arith)),
+        notifications-same w with (above 672 736 (omega arith)) (above 1056 1088 (omega arith)),
         who-same w with (above 736 800 (omega arith)),
         heard-same w with (above 800 928 (omega arith)),
         keys-same w with (above 928 1056 (omega arith)),
       )
 
-pub service-put : (w : List ℕ) (i x : ℕ) (s : Service) → length w ≡ 1056 → i < 32 → (x % 65536 ≡ s .start) × (x / 65536 % 65536 ≡ s .end)
+pub service-put : (w : List ℕ) (i x : ℕ) (s : Service) → length w ≡ 1152 → i < 32 → (x % 65536 ≡ s .start) × (x / 65536 % 65536 ≡ s .end)
     → tables (set (set (set w (384 + i) (s .uuid .low)) (416 + i) (s .uuid .high)) (448 + i) x)
     ≡ withServices (tables w) (set (servicesIn w) i s)
 unfolding serviceOf

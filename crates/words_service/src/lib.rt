@@ -38,7 +38,7 @@ fn word_of(s: Service) -> u64
 }
 
 // The service in place i.
-pub fn service_at(tables: &[u64; 1056], i: usize) -> Service
+pub fn service_at(tables: &[u64; 1152], i: usize) -> Service
     requires { ⌜ i < mostServices ⌝ }
     ensures { λ r. ⌜ r ≡ getD (servicesIn (now (tables .entry))) i zero-service ⌝ }
 {
@@ -55,7 +55,7 @@ pub fn service_at(tables: &[u64; 1056], i: usize) -> Service
 }
 
 // A service goes into place i.
-fn put_service(tables: &mut [u64; 1056], i: usize, s: Service)
+fn put_service(tables: &mut [u64; 1152], i: usize, s: Service)
     requires { ⌜ i < mostServices ⌝ }
     ensures { λ _. ⌜ all.tables (now (tables .exit)) ≡ all.withServices (all.tables (now (tables .entry))) (set (servicesIn (now (tables .entry))) i s) ⌝ }
 {
@@ -70,7 +70,7 @@ fn put_service(tables: &mut [u64; 1056], i: usize, s: Service)
 // ---- the first count of them
 
 // The first service with this UUID. The handles are read of that one alone.
-pub fn find_service(tables: &[u64; 1056], count: usize, uuid: Uuid) -> Which
+pub fn find_service(tables: &[u64; 1152], count: usize, uuid: Uuid) -> Which
     requires { ⌜ count ≤ mostServices ⌝ }
     ensures { λ r. ⌜ r ≡ serviceWith uuid (take count (servicesIn (now (tables .entry)))) ⌝ }
 {
@@ -88,7 +88,7 @@ pub fn find_service(tables: &[u64; 1056], count: usize, uuid: Uuid) -> Which
 }
 
 // The first count services by value. The other places are zero.
-pub fn services_of(tables: &[u64; 1056], count: usize) -> Services
+pub fn services_of(tables: &[u64; 1152], count: usize) -> Services
     requires { ⌜ count ≤ mostServices ⌝ }
     ensures { λ r. ⌜ (r .count ≡ count) × (known r ≡ take count (servicesIn (now (tables .entry)))) ⌝ }
 {
@@ -108,7 +108,7 @@ pub fn services_of(tables: &[u64; 1056], count: usize) -> Services
 }
 
 // The known services go into the first places.
-pub fn put_services(tables: &mut [u64; 1056], t: Services)
+pub fn put_services(tables: &mut [u64; 1152], t: Services)
     requires { ⌜ t .count ≤ mostServices ⌝ }
     ensures { λ _. ⌜ all.tables (now (tables .exit)) ≡ all.withServices (all.tables (now (tables .entry))) (onto (servicesIn (now (tables .entry))) (known t)) ⌝ }
 {
@@ -126,7 +126,7 @@ pub fn put_services(tables: &mut [u64; 1056], t: Services)
 
 // The services after the entries of size bytes that stand in store from index from to index end. The first count were known.
 pub fn take_services(
-    tables: &mut [u64; 1056],
+    tables: &mut [u64; 1152],
     count: usize,
     store: &[u8],
     from: usize,

@@ -1,5 +1,5 @@
 -- What each return asks, from what the callees ensure.
-use Prim.Native.Nat.{ℕ, _+_, _/_, _%_, _<_, _≤_}
+use Prim.Native.Nat.{ℕ, _+_, _*_, _/_, _%_, _<_, _≤_}
 use mathlib.Core.Path.{_≡_, refl, sym, ap, _∙_}
 use mathlib.Core.Bool.{Bool, true, false}
 use mathlib.Core.List.{List}
@@ -10,18 +10,21 @@ use lib.Dec.{eqb}
 use Rattle.bytes.specs.Choice.{pick}
 use Rattle.lists.specs.Queue.{shifted}
 use Rattle.time.specs.declared.Millis.{Millis}
-use Rattle.state_kinds.specs.Kinds.{carries}
+use Rattle.uuid.specs.declared.Uuid.{Uuid}
+use Rattle.state_kinds.specs.Kinds.{carries, waitNotification}
+use Rattle.notifications.specs.declared.Age.{Age}
+use Rattle.notifications.specs.declared.Age.the-variants.{Any, Within}
 use Rattle.state.specs.declared.Queued.{Queued}
 use Rattle.state.specs.declared.Target.{Target}
 use Rattle.state.specs.declared.Step.{Step}
-use Rattle.state.specs.declared.Step.the-variants.{Connect}
+use Rattle.state.specs.declared.Step.the-variants.{Connect, WaitNotification}
 use Rattle.words.specs.declared.Flat.{Flat}
 use Rattle.words.specs.Words.{two16, two32, two48, halfAt, bitAt, stepOf, lenOf, queuedOf, flatOf}
 use Rattle.words.specs.Tables.{word, stepsIn, tables, withSteps}
 use Rattle.words.specs.Rows.{Same, Lowered}
 use Rattle.words.proofs.TableLaws.{table-set, table-lowered}
 use Rattle.words.proofs.RowLaws.{results-same, services-same, characteristics-same, notifications-same, who-same, heard-same, keys-same}
-use Rattle.words_step.specs.Carried.{carried}
+use Rattle.words_step.specs.Carried.{carried, plain}
 
 -- ---- a step taken apart
 
@@ -33,6 +36,26 @@ apart r p s step n e g h k = (ap stepOf e ∙ h ∙ sym g, ap lenOf e ∙ k ∙ 
 pub aimed : (t u : Target) (interval latency timeout : ℕ) (ms : Millis) (step : Step) (n : ℕ) → t ≡ u → step ≡ Connect u interval latency timeout ms
     → (Connect t interval latency timeout ms ≡ step) × (0 ≡ pick (carries step) n 0)
 aimed t u interval latency timeout ms step n e g = rw (e, g) (refl, refl)
+
+-- the halves of an age are the age
+pub halves : (u : Uuid) (ms age : Millis) → WaitNotification u ms (Within (record { 0 = age .0 % 65536 + 65536 * (age .0 / 65536) })) ≡ WaitNotification u ms (Within age)
+halves u ms age =
+    let e : age .0 % 65536 + 65536 * (age .0 / 65536) ≡ age .0 = omega arith in
+    ap (λ (k : ℕ). WaitNotification u ms (Within (record { 0 = k }))) e
+
+-- a wait taken apart into r
+module _ (r : Flat) (u : Uuid) (ms : Millis) (size : ℕ) where
+  pub ageless : (age : Age) → r ≡ plain waitNotification false ms size u → age ≡ Any → (stepOf r ≡ WaitNotification u ms age) × (lenOf r ≡ size % 256)
+  unfolding stepOf lenOf
+  ageless age e g = rw (e, g) (refl, refl)
+
+  pub in-age : (most : Millis) (age : Age) → (stepOf r ≡ WaitNotification u ms (Within most)) × (lenOf r ≡ size % 256) → age ≡ Within most
+      → (stepOf r ≡ WaitNotification u ms age) × (lenOf r ≡ size % 256)
+  in-age most age e g = rw g e
+
+  pub waited : (age : Age) (step : Step) (n : ℕ) → (stepOf r ≡ WaitNotification u ms age) × (lenOf r ≡ size % 256) → step ≡ WaitNotification u ms age
+      → size % 256 ≡ n → (stepOf r ≡ step) × (lenOf r ≡ pick (carries step) n 0)
+  waited age step n e g h = rw g (e .0, e .1 ∙ h)
 
 pub one-bit : (b : Bool) → eqb (pick b 1 0) 1 ≡ b
 one-bit true = refl
@@ -53,14 +76,14 @@ abbrev flatIn : List ℕ → ℕ → Flat
 flatIn w i = flatOf (word w 0 i) (word w 64 i) (word w 128 i) (word w 192 i)
 
 -- the words above the steps are the same: so are all other tables
-pub steps-alone : (w v : List ℕ) (l : List Queued) → Same 256 1056 w v → stepsIn v ≡ l → tables v ≡ withSteps (tables w) l
+pub steps-alone : (w v : List ℕ) (l : List Queued) → Same 256 1152 w v → stepsIn v ≡ l → tables v ≡ withSteps (tables w) l
 steps-alone w v l h e =
     rw (
       e,
-      results-same w v (λ p a b. h p (omega arith) (omega arith)),
+      results-same w v (λ p a b. h p (omega arith) (omega arith)) (λ p a b. h p (omega arith) (omega arith)),
       services-same w v (λ p a b. h p (omega arith) (omega arith)),
       characteristics-same w v (λ p a b. h p (omega arith) (omega arith)),
-      notifications-same w v (λ p a b. h p (omega arith) (omega arith)),
+      notifications-same w v (λ p a b. h p (omega arith) (omega arith)) (λ p a b. h p (omega arith) (omega arith)),
       who-same w v (λ p a b. h p (omega arith) (omega arith)),
       heard-same w v (λ p a b. h p (omega arith) (omega arith)),
       keys-same w v (λ p a b. h p (omega arith) (omega arith)),
@@ -68,7 +91,7 @@ steps-alone w v l h e =
 
 -- ---- four words put: the place has them, and every other word is as it was
 
-module _ (w : List ℕ) (i a low high d : ℕ) (long : length w ≡ 1056) (b : i < 64) where
+module _ (w : List ℕ) (i a low high d : ℕ) (long : length w ≡ 1152) (b : i < 64) where
   abbrev with : List ℕ
   with = set (set (set (set w (0 + i) a) (64 + i) low) (128 + i) high) (192 + i) d
 
@@ -94,9 +117,9 @@ module _ (w : List ℕ) (i a low high d : ℕ) (long : length w ≡ 1056) (b : i
       let w₁ : List ℕ = set w (0 + i) a in
       let w₂ : List ℕ = set w₁ (64 + i) low in
       let w₃ : List ℕ = set w₂ (128 + i) high in
-      let l₁ : length w₁ ≡ 1056 = length-set w (0 + i) a ∙ long in
-      let l₂ : length w₂ ≡ 1056 = length-set w₁ (64 + i) low ∙ l₁ in
-      let l₃ : length w₃ ≡ 1056 = length-set w₂ (128 + i) high ∙ l₂ in
+      let l₁ : length w₁ ≡ 1152 = length-set w (0 + i) a ∙ long in
+      let l₂ : length w₂ ≡ 1152 = length-set w₁ (64 + i) low ∙ l₁ in
+      let l₃ : length w₃ ≡ 1152 = length-set w₂ (128 + i) high ∙ l₂ in
       let e₀ : getD with (0 + i) 0 ≡ a =
       getD-set-other w₃ (192 + i) (0 + i) d 0 (λ e. omega arith)
       ∙ getD-set-other w₂ (128 + i) (0 + i) high 0 (λ e. omega arith)

@@ -13,6 +13,6 @@ use Rattle.words.specs.declared.Flat.{Flat}
 abbrev pub carried : Step → ℕ → Queued
 carried step len = record { step = step; len = pick (carries step) len 0 }
 
--- what every kind but a Connect is made of
+-- what every kind is made of but a Connect and a wait with an age
 abbrev pub plain : ℕ → Bool → Millis → ℕ → Uuid → Flat
 plain kind flag ms size uuid = record { kind = kind; flag = flag; ms = ms; size = size; uuid = uuid; aim = 0; latency = 0; timeout = 0; interval = 0 }

@@ -8,13 +8,16 @@ ghost use Rattle.state_kinds.specs.Kinds.{carries};
 ghost use Rattle.state_places.specs.Sizes.{mostSteps};
 ghost use Rattle.lists.specs.Queue.{shifted};
 ghost use Rattle.adv_reports.specs.Key.{addressOf};
+ghost use Rattle.notifications.specs.declared.Age.the-variants.{Within};
+ghost use Rattle.state.specs.declared.Step.the-variants.{WaitNotification};
 ghost use Rattle.state.specs.Fresh.{noQueued};
 ghost use Rattle.state_rules.specs.Fit.{stepsFit};
-ghost use Rattle.words.specs.Words.{two16, two32, two48, halfAt, bitAt, targetOf, stepOf, lenOf, queuedOf, flatOf};
+ghost use Rattle.words.specs.Words.{two16, two32, two48, halfAt, bitAt, targetOf, ageOf, stepOf, lenOf, queuedOf, flatOf};
 ghost use Rattle.words.specs.Tables.{word, stepsIn};
 ghost use Rattle.words.specs.Tables as all;
 ghost use Rattle.words_step.specs.Carried.{carried, plain};
 ghost use Rattle.words_step.specs.Fits.{wordFits};
+use notifications::Age;
 use state::Address;
 use state::Queued;
 use state::Step;
@@ -43,6 +46,9 @@ const IN_8_BITS: u64 = 256;
 const IN_16_BITS: u64 = 65_536;
 
 const IN_32_BITS: u64 = 4_294_967_296;
+
+// Where the high half of an age begins: 2^16.
+const AGE_HIGH: u32 = 65_536;
 
 // A length is the low 8 bits of a size.
 const LENGTHS: u16 = 256;
@@ -97,7 +103,7 @@ fn aim_of(target: Target) -> Aim
     }
 }
 
-// Every kind but a Connect.
+// Every kind but a Connect and a wait with an age.
 fn plain(kind: u8, flag: bool, ms: Millis, size: u16, uuid: Uuid) -> Flat
     ensures { λ r. ⌜ r ≡ plain kind flag ms size uuid ⌝ }
 {
@@ -111,6 +117,35 @@ fn plain(kind: u8, flag: bool, ms: Millis, size: u16, uuid: Uuid) -> Flat
         latency: 0,
         timeout: 0,
         interval: 0,
+    }
+}
+
+// A wait with an age, whose halves stand where a Connect has its latency and its timeout.
+fn aged(ms: Millis, size: u16, uuid: Uuid, age: Millis) -> Flat
+    ensures { λ r. ⌜ (stepOf r ≡ WaitNotification uuid ms (Within age)) × (lenOf r ≡ size % 256) ⌝ }
+{
+    let all = age.0;
+    let latency = (all % AGE_HIGH) as u16;
+    let timeout = (all / AGE_HIGH) as u16;
+    Flat {
+        kind: state_kinds::WAIT_NOTIFICATION,
+        flag: true,
+        ms,
+        size,
+        uuid,
+        aim: 0,
+        latency,
+        timeout,
+        interval: 0,
+    }
+}
+
+fn wait_of(ms: Millis, size: u16, uuid: Uuid, age: Age) -> Flat
+    ensures { λ r. ⌜ (stepOf r ≡ WaitNotification uuid ms age) × (lenOf r ≡ size % 256) ⌝ }
+{
+    match age {
+        Age::Any => plain(state_kinds::WAIT_NOTIFICATION, false, ms, size, uuid),
+        Age::Within(most) => aged(ms, size, uuid, most),
     }
 }
 
@@ -170,13 +205,8 @@ pub fn flat_of(step: Step, len: u8) -> Flat
         Step::WaitNotification {
             characteristic,
             within_ms,
-        } => plain(
-            state_kinds::WAIT_NOTIFICATION,
-            false,
-            within_ms,
-            size,
-            characteristic,
-        ),
+            age,
+        } => wait_of(within_ms, size, characteristic, age),
         Step::Wait { ms } => plain(state_kinds::WAIT, false, ms, 0, none),
         Step::Disconnect => plain(state_kinds::DISCONNECT, false, never, 0, none),
         Step::Capture { enabled } => plain(state_kinds::CAPTURE, enabled, never, 0, none),
@@ -203,6 +233,18 @@ fn target_of(aim: u8, uuid: Uuid) -> Target
         }
         _ => Target::Service(uuid),
     }
+}
+
+fn age_of(f: Flat) -> Age
+    ensures { λ r. ⌜ r ≡ ageOf f ⌝ }
+{
+    if f.flag {
+        let low = f.latency as u32;
+        let high = f.timeout as u32;
+        let ms = low + AGE_HIGH * high;
+        return Age::Within(Millis(ms));
+    }
+    Age::Any
 }
 
 pub fn step_of(f: Flat) -> Step
@@ -238,10 +280,14 @@ pub fn step_of(f: Flat) -> Step
         state_kinds::READ => Step::Read {
             characteristic: uuid,
         },
-        state_kinds::WAIT_NOTIFICATION => Step::WaitNotification {
-            characteristic: uuid,
-            within_ms: ms,
-        },
+        state_kinds::WAIT_NOTIFICATION => {
+            let age = age_of(f);
+            Step::WaitNotification {
+                characteristic: uuid,
+                within_ms: ms,
+                age,
+            }
+        }
         state_kinds::WAIT => Step::Wait { ms },
         state_kinds::DISCONNECT => Step::Disconnect,
         state_kinds::CAPTURE => Step::Capture { enabled: flag },
@@ -303,7 +349,7 @@ fn top(word: u64) -> u16
 }
 
 // What the words of place i say.
-fn flat_at(tables: &[u64; 1056], i: usize) -> Flat
+fn flat_at(tables: &[u64; 1152], i: usize) -> Flat
     requires { ⌜ i < mostSteps ⌝ }
     ensures { λ r. ⌜ r ≡ flatOf (word (now (tables .entry)) 0 i) (word (now (tables .entry)) 64 i) (word (now (tables .entry)) 128 i) (word (now (tables .entry)) 192 i) ⌝ }
 {
@@ -333,7 +379,7 @@ fn flat_at(tables: &[u64; 1056], i: usize) -> Flat
 }
 
 // The step that waits in place i, with the length of its value.
-pub fn queued_at(tables: &[u64; 1056], i: usize) -> Queued
+pub fn queued_at(tables: &[u64; 1152], i: usize) -> Queued
     requires { ⌜ i < mostSteps ⌝ }
     ensures { λ r. ⌜ r ≡ getD (stepsIn (now (tables .entry))) i noQueued ⌝ }
 {
@@ -344,7 +390,7 @@ pub fn queued_at(tables: &[u64; 1056], i: usize) -> Queued
 }
 
 // Four words go into place i.
-fn put_words(tables: &mut [u64; 1056], i: usize, a: u64, low: u64, high: u64, d: u64)
+fn put_words(tables: &mut [u64; 1152], i: usize, a: u64, low: u64, high: u64, d: u64)
     requires { ⌜ i < mostSteps ⌝ }
     ensures { λ _. ⌜ all.tables (now (tables .exit)) ≡ all.withSteps (all.tables (now (tables .entry))) (set (stepsIn (now (tables .entry))) i (queuedOf (flatOf a low high d))) ⌝ }
 {
@@ -356,7 +402,7 @@ fn put_words(tables: &mut [u64; 1056], i: usize, a: u64, low: u64, high: u64, d:
 }
 
 // A step goes into place i, with the length of its value if its kind carries one.
-pub fn put_step(tables: &mut [u64; 1056], i: usize, step: Step, len: u8)
+pub fn put_step(tables: &mut [u64; 1152], i: usize, step: Step, len: u8)
     requires { ⌜ i < mostSteps ⌝ }
     ensures { λ _. ⌜ all.tables (now (tables .exit)) ≡ all.withSteps (all.tables (now (tables .entry))) (set (stepsIn (now (tables .entry))) i (carried step len)) ⌝ }
 {
@@ -368,7 +414,7 @@ pub fn put_step(tables: &mut [u64; 1056], i: usize, step: Step, len: u8)
 }
 
 // The first goes, and n others move down by one.
-pub fn shift_steps(tables: &mut [u64; 1056], n: usize)
+pub fn shift_steps(tables: &mut [u64; 1152], n: usize)
     requires { ⌜ n < mostSteps ⌝ }
     ensures { λ _. ⌜ all.tables (now (tables .exit)) ≡ all.withSteps (all.tables (now (tables .entry))) (shifted (stepsIn (now (tables .entry))) n) ⌝ }
 {
@@ -391,7 +437,7 @@ fn word_fits(a: u64) -> bool
         & (!(kind == state_kinds::EXCHANGE_MTU) | (size <= state_rules::MAX_MTU))
 }
 
-fn each_fits(tables: &[u64; 1056], count: usize) -> bool
+fn each_fits(tables: &[u64; 1152], count: usize) -> bool
     requires { ⌜ count ≤ mostSteps ⌝ }
     ensures { λ r. ⌜ r ≡ stepsFit (take count (stepsIn (now (tables .entry)))) ⌝ }
 {
@@ -407,7 +453,7 @@ fn each_fits(tables: &[u64; 1056], count: usize) -> bool
 }
 
 // Whether the sizes alone say so of every step, with no look at its kind.
-fn all_short(tables: &[u64; 1056], count: usize) -> bool
+fn all_short(tables: &[u64; 1152], count: usize) -> bool
     requires { ⌜ count ≤ mostSteps ⌝ }
     ensures { λ r. ⌜ (r ≡ true → stepsFit (take count (stepsIn (now (tables .entry)))) ≡ true) ⌝ }
 {
@@ -422,7 +468,7 @@ fn all_short(tables: &[u64; 1056], count: usize) -> bool
 }
 
 // Whether each of the first count steps is as a batch accepts it.
-pub fn steps_fit(tables: &[u64; 1056], count: usize) -> bool
+pub fn steps_fit(tables: &[u64; 1152], count: usize) -> bool
     requires { ⌜ count ≤ mostSteps ⌝ }
     ensures { λ r. ⌜ r ≡ stepsFit (take count (stepsIn (now (tables .entry)))) ⌝ }
 {

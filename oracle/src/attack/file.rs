@@ -1,6 +1,6 @@
 //! The files of tests/attacks: calls in words, and behind each what its line must be (docs/TRACE.md, 'Attacks').
 
-use crate::trace::{Batch, Call};
+use crate::trace::{Batch, Call, one};
 use oracle::ble::central::{Step, Target, Uuid};
 use std::str::{FromStr, SplitWhitespace};
 
@@ -59,9 +59,9 @@ fn expanded(word: &str) -> Option<String> {
 }
 
 /// All words that are left.
-fn bytes(w: &mut Words) -> Result<Vec<u8>, String> {
+fn bytes<'a>(words: &mut impl Iterator<Item = &'a str>) -> Result<Vec<u8>, String> {
     let mut all = Vec::new();
-    for text in w {
+    for text in words {
         let wrong = || format!("{text} is no byte");
         let digits = expanded(text).filter(|d| d.is_ascii() && d.len() % 2 == 0).ok_or_else(wrong)?;
         for at in (0..digits.len()).step_by(2) {
@@ -95,6 +95,18 @@ fn connect(w: &mut Words) -> Result<Step, String> {
     Ok(Step::Connect { target, interval, latency, timeout, within_ms })
 }
 
+/// `UUID MS BYTES`, and of an aged one `aged MS` behind them.
+fn wait_notification(w: &mut Words) -> Result<Step, String> {
+    let (characteristic, within_ms) = (uuid(w)?, number(w, "time")?);
+    let mut is_aged = false;
+    let contains = bytes(&mut w.by_ref().take_while(|text| {
+        is_aged = *text == "aged";
+        !is_aged
+    }))?;
+    let age_ms = if is_aged { Some(number(w, "age")?) } else { None };
+    Ok(one::wait(characteristic, contains, within_ms, age_ms))
+}
+
 fn step(text: &str) -> Result<Step, String> {
     let w = &mut text.split_whitespace();
     let made = match word(w, "step")? {
@@ -107,10 +119,7 @@ fn step(text: &str) -> Result<Step, String> {
         "write" => Step::Write { characteristic: uuid(w)?, value: bytes(w)?, with_response: true },
         "write_command" => Step::Write { characteristic: uuid(w)?, value: bytes(w)?, with_response: false },
         "read" => Step::Read { characteristic: uuid(w)? },
-        "wait_notification" => {
-            let (characteristic, within_ms) = (uuid(w)?, number(w, "time")?);
-            Step::WaitNotification { characteristic, contains: bytes(w)?, within_ms }
-        }
+        "wait_notification" => wait_notification(w)?,
         "wait" => Step::Wait { ms: number(w, "time")? },
         "disconnect" => Step::Disconnect,
         other => return Err(format!("{other} is no step")),
@@ -167,6 +176,8 @@ fn call(text: &str, turn: u64, later: u64) -> Result<Call, String> {
         "connected_handle" => Call::ConnectedHandle,
         "result" => Call::Result { index: number(w, "index")? },
         "dump" => Call::Dump,
+        "links" => Call::Links,
+        "passed_on" => Call::PassedOn { index: number(w, "index")? },
         other => return Err(format!("{other} is no call")),
     };
     w.next().map_or(Ok(made), |more| Err(format!("{more} is too much")))
@@ -235,8 +246,9 @@ pub fn read(text: &str) -> Result<Attack, (usize, String)> {
         turns.extend(more);
     }
     // Whoever wrote it has said what is done to the library, what it does, and the rule.
-    if text.lines().take_while(|l| l.starts_with("# ")).filter(|l| l.starts_with("# 01, ")).count() == 0 {
-        return Err((1, "it begins with no comment that names a rule of 01 ('# 01, ..')".into()));
+    let names_a_rule = |l: &str| l.starts_with("# 01, ") || l.starts_with("# 02, ");
+    if !text.lines().take_while(|l| l.starts_with("# ")).any(names_a_rule) {
+        return Err((1, "it begins with no comment that names a rule of 01 or 02 ('# 01, ..')".into()));
     }
     if turns.iter().all(|t| t.line.is_none() && t.parts.is_empty()) {
         return Err((1, "it expects nothing".into()));

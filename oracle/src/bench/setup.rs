@@ -8,7 +8,7 @@ pub struct Lent {
 }
 
 /// The words of a state's tables.
-pub const WORDS: usize = 1056;
+pub const WORDS: usize = 1152;
 
 impl Lent {
     pub fn new() -> Lent {

@@ -62,6 +62,7 @@ unsafe extern "C" {
     fn stack_timer_us(tables: *const [u64; WORDS], store: *const u8, store_len: usize) -> u8;
     fn stack_connected_handle(tables: *const [u64; WORDS], store: *const u8, store_len: usize) -> u8;
     fn stack_result(tables: *const [u64; WORDS], store: *const u8, store_len: usize, index: u32) -> u8;
+    fn stack_passed_on(tables: *const [u64; WORDS], store: *const u8, store_len: usize, index: u32) -> u8;
 }
 
 /// The most that a call may need.
@@ -140,6 +141,7 @@ fn without_a_wait(rows: &mut Rows, l: &mut Lent) {
         rows.row("timer_us", MOST, &mut || stack_timer_us(tables, store, size));
         rows.row("connected_handle", MOST, &mut || stack_connected_handle(tables, store, size));
         rows.row("result", MOST, &mut || stack_result(tables, store, size, 1));
+        rows.row("passed_on", MOST, &mut || stack_passed_on(tables, store, size, 1));
     }
 }
 

@@ -81,6 +81,7 @@ fn reading(rows: &mut Rows, m: &Memory) {
     rows.row("timer_us from C", MOST, &mut || refusal(m.timer_us()));
     rows.row("connected_handle from C", MOST, &mut || refusal(m.connected_handle()));
     rows.row("result from C", MOST, &mut || refusal(m.result(1)));
+    rows.row("passed_on from C", MOST, &mut || refusal(m.passed_on(1)));
     rows.row("report from C", MOST, &mut || m.report(63)[0] as u8);
     rows.row("report_data from C", MOST, &mut || refusal(m.report_data(63)));
     rows.row("report_response from C", MOST, &mut || refusal(m.report_response(63)));

@@ -3,9 +3,9 @@
 use crate::asked::Asked;
 use crate::exports::{Memory, STEP, Told};
 use crate::state;
-use crate::trace::answer::{self, Answer};
-use crate::trace::{Batch, Call, kind};
-use oracle::ble::central::{AdvAction, LlRequest, Step, StepResult, Target, Uuid};
+use crate::trace::answer::{self, Answer, Passed};
+use crate::trace::{Batch, Call, kind, one};
+use oracle::ble::central::{AdvAction, LlRequest, Step, Target, Uuid};
 
 /// The one word of the core that a refusal changes, and the refusal: bytes held of a frame that is too long.
 const HELD: usize = 17;
@@ -48,6 +48,9 @@ fn step_words(step: &Step, (place, len): (u32, u32)) -> [u64; STEP] {
         }
         Step::WaitNotification { characteristic: u, within_ms, .. } => {
             ((w[4], w[5]), w[2]) = (halves(u), u64::from(*within_ms));
+            if let Some(age_ms) = one::age(step) {
+                (w[1], w[7], w[8]) = (1, u64::from(age_ms & 0xFFFF), u64::from(age_ms >> 16));
+            }
         }
         Step::Capture { enabled: flag } | Step::CaptureSecrets { secrets: flag } => w[1] = u64::from(*flag),
     }
@@ -129,11 +132,31 @@ fn result(told: &Told, index: u32, store: &[u8]) -> Answer {
         let (place, len) = (told[5] as usize, told[6] as usize);
         let value = store.get(place..place.checked_add(len)?)?.to_vec();
         let status = state::status(u8::try_from(told[3]).ok()?, u8::try_from(told[4]).ok()?)?;
-        Some(Answer::Result(Some(StepResult { index, at_us: told[2], status, value })))
+        Some(Answer::Result(Some(one::result(index, told[2], status, value))))
     };
     match told[1..] {
         [0, 0, 0, 0, 0, 0, 0] => Answer::Result(None),
         [1, _, _, _, _, _, 0] => kept().unwrap_or_else(|| other(told)),
+        _ => other(told),
+    }
+}
+
+fn passed(told: &Told, store: &[u8]) -> Answer {
+    let kept = || {
+        let (place, len) = (told[6] as usize, told[7] as usize);
+        let value = store.get(place..place.checked_add(len)?)?.to_vec();
+        let indication = told[5] == 1;
+        Some(Answer::PassedOn(Some(Passed {
+            at_us: told[2],
+            link: told[3],
+            handle: half(told[4])?,
+            indication,
+            value,
+        })))
+    };
+    match told[1..] {
+        [0, 0, 0, 0, 0, 0, 0] => Answer::PassedOn(None),
+        [1, _, _, _, 0 | 1, _, _] => kept().unwrap_or_else(|| other(told)),
         _ => other(told),
     }
 }
@@ -168,7 +191,7 @@ impl Port {
                 m.clear();
                 return Answer::Fresh;
             }
-            Call::Dump => return Answer::State,
+            Call::Dump | Call::Links => return Answer::State,
             Call::Batch(b) => self.push(b),
             Call::Timer { now } => m.on_timer(*now),
             Call::Connected { at, handle } => m.on_connected(*handle, *at),
@@ -183,6 +206,7 @@ impl Port {
             Call::TimerUs => m.timer_us(),
             Call::ConnectedHandle => m.connected_handle(),
             Call::Result { index } => m.result(*index),
+            Call::PassedOn { index } => m.passed_on(*index),
         };
         refused(&told).unwrap_or_else(|| self.accepted(call, &told))
     }
@@ -196,6 +220,7 @@ impl Port {
             Call::TimerUs => time(told),
             Call::ConnectedHandle => handle(told),
             Call::Result { index } => result(told, *index, &self.memory.store),
+            Call::PassedOn { .. } => passed(told, &self.memory.store),
             _ => done(told),
         }
     }
@@ -217,7 +242,7 @@ impl Port {
         answer
     }
 
-    /// The line of docs/TRACE.md for an answer, and for a dump the state that the words say.
+    /// The line of docs/TRACE.md for an answer; for a dump and for `links` the state that the words say.
     pub fn line(&self, call: &Call, answer: &Answer) -> Vec<u8> {
         match state::central(&self.memory) {
             Ok(left) => answer::line(call, answer, &left),

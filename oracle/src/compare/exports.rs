@@ -1,11 +1,11 @@
 //! The port's C interface (crates/c_central): what every call is lent, and the calls.
 
-pub const CORE: usize = 34;
-pub const TABLES: usize = 1_056;
+pub const CORE: usize = 35;
+pub const TABLES: usize = 1_152;
 pub const STORE: usize = 43_631;
 pub const OUTPUT: usize = 16_315;
 /// The words of a step: kind, flag, milliseconds, MTU, UUID or address, target, latency, timeout, interval, its value's place
-/// and length.
+/// and length. An aged wait has the flag, and its age where a Connect has latency (low half) and timeout (high half).
 pub const STEP: usize = 12;
 
 /// What a call tells: its refusal, then the numbers of its answer; words that it does not use are 0.
@@ -124,6 +124,14 @@ unsafe extern "C" {
         told: &mut Told,
     );
     fn barleyrope_result_words(
+        core: &[u64; CORE],
+        tables: &[u64; TABLES],
+        store: *const u8,
+        store_len: usize,
+        index: u32,
+        told: &mut Told,
+    );
+    fn barleyrope_passed_on_words(
         core: &[u64; CORE],
         tables: &[u64; TABLES],
         store: *const u8,
@@ -308,6 +316,13 @@ impl Memory {
         let s = &self.store;
         // SAFETY: as above.
         unsafe { barleyrope_result_words(&self.core, &self.tables, s.as_ptr(), s.len(), index, &mut told) }
+        told
+    }
+
+    pub fn passed_on(&self, index: u32) -> Told {
+        let (mut told, s) = (UNTOLD, &self.store);
+        // SAFETY: as above.
+        unsafe { barleyrope_passed_on_words(&self.core, &self.tables, s.as_ptr(), s.len(), index, &mut told) }
         told
     }
 

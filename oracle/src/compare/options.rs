@@ -1,6 +1,7 @@
 //! The words that a comparison is told (docs/TRACE.md, 'Sequences').
 
 use crate::sequence::{Groups, Plan};
+use crate::trace::one;
 
 pub struct Options {
     pub plan: Plan,
@@ -26,7 +27,14 @@ fn groups(value: &str) -> Result<Groups, String> {
 impl Options {
     pub fn read(mut words: impl Iterator<Item = String>) -> Result<Options, String> {
         let mut o = Options {
-            plan: Plan { seed: 1, groups: Groups { radio: true, link: true }, refusals: false, calls: 200, dumps: 9 },
+            plan: Plan {
+                seed: 1,
+                groups: Groups { radio: true, link: true },
+                refusals: false,
+                aged: false,
+                calls: 200,
+                dumps: 9,
+            },
             count: 2_000,
             total: 0,
             save: "target/oracle".into(),
@@ -38,6 +46,8 @@ impl Options {
                 "first" => o.first = true,
                 "few" => o.few = true,
                 "refusals" => o.plan.refusals = true,
+                "aged" if one::IS_THERE => o.plan.aged = true,
+                "aged" => return Err("the Rust of docs/src has no aged wait".into()),
                 _ => o.set(&word, words.next().ok_or(format!("{word} needs a value"))?)?,
             }
         }

@@ -1,9 +1,10 @@
 //! What a run showed, and what it ought to have shown.
 
 use crate::options::Options;
+use crate::sequence::checks::{AGES, READ, WAYS};
 use crate::sequence::counts::{Counts, KINDS, STATUSES, seen};
 use crate::sequence::{Groups, Plan};
-use crate::trace::NAMES;
+use crate::trace::{NAMES, tag};
 use std::time::Duration;
 
 const OK: usize = 0;
@@ -13,6 +14,8 @@ const NOT_FOUND: usize = 3;
 const ATT_ERROR: usize = 4;
 const TOO_LONG: usize = 5;
 const DISCONNECTED: usize = 6;
+
+const WAIT_NOTIFICATION: usize = 8;
 
 /// Why a step of this kind never ends with this status, or none where it can (docs/TRACE.md).
 pub fn unreachable(kind: usize, status: usize, groups: Groups) -> Option<&'static str> {
@@ -43,9 +46,12 @@ pub fn unreachable(kind: usize, status: usize, groups: Groups) -> Option<&'stati
     }
 }
 
-/// Cells and limits that should have been reached and were not.
+/// Cells and limits that should have been reached and were not; with aged waits theirs alone, since a run without asks for the others.
 pub fn empty(c: &Counts, plan: Plan) -> Vec<String> {
     let groups = plan.groups;
+    if plan.aged {
+        return empty_of_aged(c, groups);
+    }
     let mut out = Vec::new();
     for (kind, name) in KINDS.iter().enumerate() {
         for (status, word) in STATUSES.iter().enumerate() {
@@ -91,6 +97,47 @@ pub fn empty(c: &Counts, plan: Plan) -> Vec<String> {
     out
 }
 
+/// Of aged waits.
+fn empty_of_aged(c: &Counts, groups: Groups) -> Vec<String> {
+    let mut out = Vec::new();
+    for (age, ended) in AGES.iter().zip(&c.aged.ended) {
+        for (status, word) in STATUSES.iter().enumerate() {
+            if ended[status] == 0 && unreachable(WAIT_NOTIFICATION, status, groups).is_none() {
+                out.push(format!("a wait aged {age} that ended {word}"));
+            }
+        }
+    }
+    if groups.link {
+        let never = |(what, n): (&&str, &u64)| (*n == 0).then(|| what.to_string());
+        out.extend(WAYS.iter().zip(&c.aged.ways).filter_map(never).map(|way| format!("an aged wait {way}")));
+        out.extend(READ.iter().zip(&c.aged.read).filter_map(never).map(|what| format!("passed_on of {what}")));
+    }
+    out
+}
+
+/// One line of a table by statuses: a dot where there can be nothing.
+fn row(name: &str, kind: usize, ended: &[u64], groups: Groups) {
+    print!("{name:24}");
+    for (status, n) in ended.iter().enumerate() {
+        let cell = if *n == 0 && unreachable(kind, status, groups).is_some() { ".".into() } else { n.to_string() };
+        print!("{cell:>13}");
+    }
+    println!();
+}
+
+fn print_aged(c: &Counts, groups: Groups) {
+    println!("aged waits ended:");
+    for (age, ended) in AGES.iter().zip(&c.aged.ended) {
+        row(age, WAIT_NOTIFICATION, ended, groups);
+    }
+    println!("decided as a notification came, or as the wait began:");
+    for (way, n) in WAYS.iter().zip(&c.aged.ways) {
+        println!("  {way:56}{n:>9}");
+    }
+    let read: Vec<String> = READ.iter().zip(&c.aged.read).map(|(what, n)| format!("{what} {n}")).collect();
+    println!("passed_on of: {}\n", read.join(", "));
+}
+
 pub fn print(o: &Options, c: &Counts, took: Duration) {
     let calls = c.made();
     println!(
@@ -103,6 +150,10 @@ pub fn print(o: &Options, c: &Counts, took: Duration) {
     for tag in 1..=10 {
         print!("{}{} {}", if tag == 1 { "" } else { ", " }, NAMES[tag], c.calls[tag]);
     }
+    if o.plan.aged {
+        let of = |tag: u8| format!("{} {}", NAMES[usize::from(tag)], c.calls[usize::from(tag)]);
+        print!(", {}, {}", of(tag::PASSED_ON), of(tag::LINKS));
+    }
     println!("\nnot made, since refused or for want of a table place: {}", c.withheld);
     if o.plan.refusals {
         println!("refused: {}", (3..=8).map(|n| format!("{n}: {}", c.refused[n])).collect::<Vec<_>>().join(", "));
@@ -114,14 +165,7 @@ pub fn print(o: &Options, c: &Counts, took: Duration) {
     }
     println!();
     for (kind, name) in KINDS.iter().enumerate() {
-        print!("{name:24}");
-        for status in 0..STATUSES.len() {
-            let n = c.ended[kind][status];
-            let cell =
-                if n == 0 && unreachable(kind, status, o.plan.groups).is_some() { ".".into() } else { n.to_string() };
-            print!("{cell:>13}");
-        }
-        println!();
+        row(name, kind, &c.ended[kind], o.plan.groups);
     }
     let m = &c.most;
     println!("ended and dropped in one call: {}", c.unseen);
@@ -154,4 +198,7 @@ pub fn print(o: &Options, c: &Counts, took: Duration) {
         c.updates,
         c.old_waits
     );
+    if o.plan.aged {
+        print_aged(c, o.plan.groups);
+    }
 }

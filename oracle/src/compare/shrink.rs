@@ -3,7 +3,7 @@
 use crate::asked::Asked;
 use crate::options::Options;
 use crate::sequence::bytes;
-use crate::trace::{Batch, Call, answer, gate};
+use crate::trace::{Batch, Call, answer, gate, one, value};
 use crate::verdict::Difference;
 use crate::words::{brief, call as words, contrast};
 use oracle::ble::central::{Central, Step};
@@ -39,12 +39,16 @@ fn differs(port: &mut impl Asked, calls: &[Call], most: u8) -> Option<Found> {
     None
 }
 
+/// Calls that change no state, and the first of a sequence.
+fn only_reads(call: &Call) -> bool {
+    use Call::{ConnectedHandle, Dump, Fresh, Links, PassedOn, TimerUs};
+    matches!(call, Fresh | Dump | Links | TimerUs | ConnectedHandle | Call::Result { .. } | PassedOn { .. })
+}
+
 /// A dump after each call, so that a difference in the state shows at the call that made it.
 fn with_dumps(calls: &[Call]) -> Vec<Call> {
-    let changes = |c: &&Call| {
-        !matches!(c, Call::Fresh | Call::Dump | Call::TimerUs | Call::ConnectedHandle | Call::Result { .. })
-    };
-    calls.iter().filter(changes).flat_map(|c| [c.clone(), Call::Dump]).collect()
+    let dumps = if one::IS_THERE { vec![Call::Dump, Call::Links] } else { vec![Call::Dump] };
+    calls.iter().filter(|c| !only_reads(c)).flat_map(|c| [&[c.clone()], dumps.as_slice()].concat()).collect()
 }
 
 struct Shrinker<P> {
@@ -110,27 +114,21 @@ impl<P: Asked> Shrinker<P> {
         any
     }
 
-    /// Bytes of values and data go, from the end; times become 0.
+    /// Bytes of values and data go, from the end; times become 0; waits lose their age.
     fn shorten(&mut self, calls: &mut Vec<Call>) -> bool {
+        let less: [fn(&Call) -> Call; 5] =
+            [|c| shorter(c, true), |c| shorter(c, false), |c| shorter(c, false), at_zero, ageless];
         let mut any = false;
         for at in 0..calls.len() {
-            for half in [true, false, false] {
+            for change in less {
                 let Some(call) = calls.get(at) else {
                     break;
                 };
                 let mut with = calls.clone();
-                with[at] = shorter(call, half);
+                with[at] = change(call);
                 if with[at] != *call {
                     any |= self.keep(calls, with);
                 }
-            }
-            let Some(call) = calls.get(at) else {
-                break;
-            };
-            let mut with = calls.clone();
-            with[at] = at_zero(call);
-            if with[at] != *call {
-                any |= self.keep(calls, with);
             }
         }
         any
@@ -161,6 +159,19 @@ fn shorter(call: &Call, half: bool) -> Call {
         _ => {}
     }
     c
+}
+
+fn ageless(call: &Call) -> Call {
+    let Call::Batch(b) = call else {
+        return call.clone();
+    };
+    let without = |s: &Step| match s {
+        Step::WaitNotification { characteristic, within_ms, .. } => {
+            one::wait(*characteristic, value(s).to_vec(), *within_ms, None)
+        }
+        _ => s.clone(),
+    };
+    Call::Batch(Batch::new(b.now, b.steps.iter().map(without).collect()))
 }
 
 fn at_zero(call: &Call) -> Call {

@@ -26,15 +26,19 @@ const REPORT_WHO: usize = 736;
 const REPORT_TIME: usize = 800;
 const REPORT: usize = 864;
 const KEY: usize = 928;
+#[cfg(extended)]
+const NOTIFICATION_LINK: usize = 1_056;
+#[cfg(extended)]
+const RESULT_HEARD: usize = 1_088;
 
 /// Places in the store, and the room that each value has.
 const RUNNING_AT: usize = 0;
 const WAITING_AT: usize = 244;
 const RESULTS_AT: usize = 15_860;
-const NOTIFICATIONS_AT: usize = 31_604;
+pub const NOTIFICATIONS_AT: usize = 31_604;
 const HELD_AT: usize = 39_412;
 pub const REPORTS_AT: usize = 39_663;
-const MAX_VALUE: usize = 244;
+pub const MAX_VALUE: usize = 244;
 const MAX_RESULT_VALUE: usize = 246;
 pub const MAX_DATA: usize = 31;
 
@@ -113,7 +117,15 @@ fn step(f: Flat) -> Result<Step, String> {
         5 => Step::Subscribe { characteristic: f.uuid, indicate: f.flag },
         6 => Step::Write { characteristic: f.uuid, value: f.value, with_response: f.flag },
         7 => Step::Read { characteristic: f.uuid },
-        8 => Step::WaitNotification { characteristic: f.uuid, contains: f.value, within_ms: f.ms },
+        8 if f.flag && !cfg!(extended) => return Err("an aged wait".into()),
+        // The age has the bits of a Connect's latency and timeout.
+        8 => Step::WaitNotification {
+            characteristic: f.uuid,
+            contains: f.value,
+            within_ms: f.ms,
+            #[cfg(extended)]
+            age_ms: f.flag.then_some(u32::from(f.latency) | u32::from(f.timeout) << 16),
+        },
         9 => Step::Wait { ms: f.ms },
         10 => Step::Disconnect,
         11 => Step::Capture { enabled: f.flag },
@@ -214,6 +226,8 @@ impl Memory {
             at_us: self.tables[RESULT_TIME + i],
             status: status(byte(x, 32), byte(x, 40)).ok_or(format!("result {i} has the status {}", byte(x, 32)))?,
             value: self.bytes(RESULTS_AT + MAX_RESULT_VALUE * i, byte(x, 56).into())?,
+            #[cfg(extended)]
+            heard: self.tables[RESULT_HEARD + i],
         })
     }
 
@@ -259,6 +273,8 @@ impl Memory {
             handle: half(x, 0),
             indication: byte(x, 16) & 1 == 1,
             value: self.bytes(NOTIFICATIONS_AT + MAX_VALUE * i, byte(x, 56).into())?,
+            #[cfg(extended)]
+            link: self.tables[NOTIFICATION_LINK + i],
         })
     }
 }
@@ -278,5 +294,7 @@ pub fn central(m: &Memory) -> Result<Central, String> {
         notified: m.core[25],
         wait_from: m.core[26],
         refused_steps: m.core[24],
+        #[cfg(extended)]
+        links: m.core[34],
     })
 }

@@ -59,7 +59,7 @@ pub fn call(c: &Call) -> String {
         Call::Fragment { at, start, data } => {
             format!("fragment at {at}, {}, data {}", if *start { "start" } else { "continuation" }, hex(data))
         }
-        Call::Result { index } => format!("result {index}"),
+        Call::Result { index } | Call::PassedOn { index } => format!("{name} {index}"),
         _ => name.into(),
     }
 }

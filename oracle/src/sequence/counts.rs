@@ -1,7 +1,8 @@
 //! What the sequences showed: calls of each kind, steps ended with each status, limits reached.
 
-use crate::trace::{Call, answer, gate, kind};
-use oracle::ble::central::Central;
+use super::checks::Aged;
+use crate::trace::{Call, NAMES, answer, gate, kind, tag};
+use oracle::ble::central::{Central, StepResult};
 
 pub const KINDS: [&str; 13] = [
     "Scan",
@@ -40,7 +41,7 @@ pub struct Most {
 }
 
 pub struct Counts {
-    pub calls: [u64; 12],
+    pub calls: [u64; NAMES.len()],
     /// By step kind and status.
     pub ended: [[u64; 7]; 13],
     /// Ended and dropped in the same call.
@@ -60,13 +61,14 @@ pub struct Counts {
     pub updates: u64,
     /// Waits that passed on notifications of an earlier link alone.
     pub old_waits: u64,
+    pub aged: Aged,
     notified_before: u64,
 }
 
 impl Default for Counts {
     fn default() -> Counts {
         Counts {
-            calls: [0; 12],
+            calls: [0; NAMES.len()],
             ended: [[0; 7]; 13],
             unseen: 0,
             refused: [0; 9],
@@ -80,6 +82,7 @@ impl Default for Counts {
             dropped_notifications: 0,
             updates: 0,
             old_waits: 0,
+            aged: Aged::default(),
             notified_before: 0,
         }
     }
@@ -89,14 +92,30 @@ pub fn seen(of: &[bool; 256]) -> usize {
     of.iter().filter(|x| **x).count()
 }
 
+/// The frame that a fragment completes, if anything is in it.
+pub fn frame(c: &Central, start: bool, data: &[u8]) -> Option<Vec<u8>> {
+    gate::held(c, start, data.len())?;
+    let mut rx = Vec::new();
+    if let (false, Some(l)) = (start, &c.link) {
+        rx.extend_from_slice(&l.rx);
+    }
+    rx.extend_from_slice(data);
+    let len = usize::from(*rx.first()?) | usize::from(*rx.get(1)?) << 8;
+    let is_whole = len > 0 && rx.len() >= 4 + len;
+    rx.truncate(4 + len);
+    is_whole.then_some(rx)
+}
+
 impl Counts {
     /// Calls, dumps not counted.
     pub fn made(&self) -> u64 {
-        self.calls[1..=10].iter().sum()
+        let calls = usize::from(tag::BATCH)..=usize::from(tag::RESULT);
+        self.calls[calls].iter().sum::<u64>() + self.calls[usize::from(tag::PASSED_ON)]
     }
 
     pub fn before(&mut self, c: &Central, call: &Call) {
         self.calls[usize::from(call.tag())] += 1;
+        self.aged.before(c, call);
         match call {
             Call::Fragment { start, data, .. } => self.heard(c, *start, data),
             Call::Advertising { pdu, address, random, .. } => {
@@ -117,23 +136,14 @@ impl Counts {
             return;
         };
         self.most.held = self.most.held.max(n);
-        let mut rx = Vec::new();
-        if let (false, Some(l)) = (start, &c.link) {
-            rx.extend_from_slice(&l.rx);
-        }
-        rx.extend_from_slice(data);
-        if rx.len() < 5 {
+        let Some(frame) = frame(c, start, data) else {
             return;
-        }
-        let len = usize::from(rx[0]) | usize::from(rx[1]) << 8;
-        if len == 0 || rx.len() < 4 + len {
-            return;
-        }
-        let code = usize::from(rx[4]);
-        match (rx[2], rx[3]) {
+        };
+        let code = usize::from(frame[4]);
+        match (frame[2], frame[3]) {
             (4, 0) => {
                 self.opcodes[code] = true;
-                if matches!(code, 0x1B | 0x1D) && len >= 3 && c.notifications.len() == 32 {
+                if matches!(code, 0x1B | 0x1D) && frame.len() >= 7 && c.notifications.len() == 32 {
                     self.dropped_notifications += 1;
                 }
             }
@@ -142,7 +152,27 @@ impl Counts {
         }
     }
 
-    pub fn after(&mut self, c: &Central, call: &Call, sent: &answer::Sent, kinds: &[u8], ended: u32) {
+    /// A step of this kind and age has ended.
+    fn end(&mut self, r: &StepResult, (kind, age_ms): (u8, Option<u32>), notified: u64) {
+        let (status, code) = answer::status(r.status);
+        self.ended[usize::from(kind)][usize::from(status)] += 1;
+        if let Some(age_ms) = age_ms {
+            self.aged.end(age_ms, status);
+        }
+        if status == 4 {
+            self.error_codes[usize::from(code)] = true;
+        }
+        if kind == 8 && status == 0 && notified == self.notified_before {
+            self.old_waits += 1;
+        }
+        if kind == 7 {
+            self.most.read = self.most.read.max(r.value.len());
+        }
+    }
+
+    /// `taken` has kind and age of each step, by index; those from `ended` on may have ended in this call.
+    pub fn after(&mut self, c: &Central, call: &Call, sent: &answer::Sent, taken: &[(u8, Option<u32>)], ended: u32) {
+        self.aged.after(c, call);
         match call {
             Call::Fresh => self.notified_before = 0,
             Call::Connected { .. } => self.notified_before = c.notified,
@@ -151,19 +181,8 @@ impl Counts {
         let now = c.next_index - u32::from(c.running.is_some());
         let mut seen = 0;
         for r in c.results.iter().rev().take_while(|r| r.index >= ended) {
-            let (status, code) = answer::status(r.status);
-            let kind = usize::from(kinds[r.index as usize]);
-            self.ended[kind][usize::from(status)] += 1;
+            self.end(r, taken[r.index as usize], c.notified);
             seen += 1;
-            if status == 4 {
-                self.error_codes[usize::from(code)] = true;
-            }
-            if kind == 8 && status == 0 && c.notified == self.notified_before {
-                self.old_waits += 1;
-            }
-            if kind == 7 {
-                self.most.read = self.most.read.max(r.value.len());
-            }
         }
         if !matches!(call, Call::Fresh) {
             self.unseen += u64::from(now - ended) - seen;

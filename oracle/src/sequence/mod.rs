@@ -1,6 +1,8 @@
 //! Sequences of calls from a seed. The oracle runs beside them, so that what it sends can be answered by a
 //! simulated head and a script gets far; no call is made that 01 refuses.
 
+mod aged;
+pub mod checks;
 pub mod counts;
 pub mod head;
 pub mod rng;
@@ -8,7 +10,7 @@ mod script;
 mod wire;
 
 use crate::trace::answer::{self, Answer};
-use crate::trace::{Batch, Call, gate, kind};
+use crate::trace::{Batch, Call, gate, kind, one};
 use counts::Counts;
 use head::Head;
 use oracle::ble::central::{AdvAction, Central, Step, Uuid};
@@ -29,6 +31,8 @@ pub struct Plan {
     pub groups: Groups,
     /// Calls that 01 refuses are made too.
     pub refusals: bool,
+    /// Most waits have an age.
+    pub aged: bool,
     /// At least so many calls beside dumps.
     pub calls: usize,
     /// Dumps in a hundred calls.
@@ -43,6 +47,8 @@ enum Scene {
     /// Steps of any kind in any order.
     Any,
     Notify,
+    /// Notifications before and under aged waits, over links that come and go.
+    Aged,
     Discover,
     /// Many advertisers.
     Scan,
@@ -139,15 +145,18 @@ pub struct Sequence<'a> {
     /// Frames that come later than they should.
     late: Vec<Vec<u8>>,
     connects: bool,
+    /// The age of the wait that the batch to come begins with.
+    coming: Option<u32>,
     boundary: usize,
     opcode: u8,
     signal: u8,
-    /// The kind of each step taken in, by index.
-    kinds: Vec<u8>,
+    /// Kind and age of each step taken in, by index.
+    taken: Vec<(u8, Option<u32>)>,
     made: Vec<Call>,
 }
 
-fn profile(rng: &mut Rng, groups: Groups) -> Profile {
+fn profile(rng: &mut Rng, plan: Plan) -> Profile {
+    let groups = plan.groups;
     let scenes: &[Scene] = match (groups.radio, groups.link) {
         (false, false) => &[Scene::Journey, Scene::Any, Scene::Any, Scene::Burst],
         (true, false) => &[Scene::Journey, Scene::Any, Scene::Scan, Scene::Scan, Scene::Crowd, Scene::Burst],
@@ -169,10 +178,16 @@ fn profile(rng: &mut Rng, groups: Groups) -> Profile {
             if groups.radio { Scene::Crowd } else { Scene::Any },
         ],
     };
-    let scene = *rng.pick(scenes);
+    let scene = if plan.aged && groups.link && rng.chance(60) { Scene::Aged } else { *rng.pick(scenes) };
     if matches!(scene, Scene::Crowd | Scene::Survey) {
         let (clock, cut) = (Clock::Steady, Cut::Whole);
         return Profile { scene, clock, cut, noise: 1, wrong: 0, silent: 0, late: 0, drop: 0 };
+    }
+    if scene == Scene::Aged {
+        let clock = *rng.pick(&[Clock::Steady, Clock::Steady, Clock::Jumps, Clock::Back, Clock::Edge]);
+        let cut = *rng.pick(&[Cut::Whole, Cut::Whole, Cut::Mixed]);
+        let (noise, wrong) = (*rng.pick(&[2, 5, 10]), *rng.pick(&[0, 0, 0, 5]));
+        return Profile { scene, clock, cut, noise, wrong, silent: 1, late: 1, drop: *rng.pick(&[0, 1, 4]) };
     }
     Profile {
         scene,
@@ -189,7 +204,7 @@ fn profile(rng: &mut Rng, groups: Groups) -> Profile {
 impl<'a> Sequence<'a> {
     fn new(plan: Plan, number: u64, counts: &'a mut Counts, witness: &'a mut dyn Witness) -> Sequence<'a> {
         let (mut rng, groups) = (Rng::new(plan.seed, number), plan.groups);
-        let profile = profile(&mut rng, groups);
+        let profile = profile(&mut rng, plan);
         let head = Head::new(&mut rng, profile.scene == Scene::Survey, (number * 3) as u8);
         let crowd = match profile.scene {
             Scene::Crowd => 160,
@@ -223,10 +238,11 @@ impl<'a> Sequence<'a> {
             outbox: VecDeque::new(),
             late: Vec::new(),
             connects: false,
+            coming: None,
             boundary,
             opcode,
             signal,
-            kinds: Vec::new(),
+            taken: Vec::new(),
             made: Vec::new(),
         }
     }
@@ -253,9 +269,9 @@ impl<'a> Sequence<'a> {
         let (answer, sent) = answer::play(&mut self.central, &call);
         if let Call::Batch(b) = &call {
             let more = self.central.next_index as usize + self.central.queue.len() - taken;
-            self.kinds.extend(b.steps[..more].iter().map(kind));
+            self.taken.extend(b.steps[..more].iter().map(|s| (kind(s), one::age(s))));
         }
-        self.counts.after(&self.central, &call, &sent, &self.kinds, ended);
+        self.counts.after(&self.central, &call, &sent, &self.taken, ended);
         self.witness.saw(&call, &answer, &self.central);
         self.made.push(call);
         for frame in &sent.frames {
@@ -279,14 +295,29 @@ impl<'a> Sequence<'a> {
             self.make(call);
             made += self.made.len() - before;
             if self.rng.chance(self.plan.dumps) {
-                self.make(Call::Dump);
+                self.dump();
             }
         }
+        self.dump();
+    }
+
+    /// A dump's line tells nothing of links: those have a record of their own.
+    fn dump(&mut self) {
         self.make(Call::Dump);
+        if self.plan.aged {
+            self.make(Call::Links);
+        }
     }
 
     /// The time of the next call.
     fn tick(&mut self) -> u64 {
+        if self.plan.aged
+            && self.rng.chance(35)
+            && let Some(at) = self.about_an_age()
+        {
+            self.now = at;
+            return at;
+        }
         let r = &mut self.rng;
         let step = match self.profile.clock {
             Clock::Jumps if r.chance(20) => r.below(40_000_000),
@@ -338,6 +369,9 @@ impl<'a> Sequence<'a> {
     }
 
     fn reader(&mut self) -> Call {
+        if self.plan.aged && self.rng.chance(30) {
+            return self.aged_reader();
+        }
         match self.rng.below(4) {
             0 => Call::TimerUs,
             1 => Call::ConnectedHandle,
@@ -379,6 +413,9 @@ impl<'a> Sequence<'a> {
 
     /// The call that brings the running step on.
     fn helpful(&mut self) -> Call {
+        if let Some(call) = self.about_a_wait() {
+            return call;
+        }
         let Some(step) = self.central.running.as_ref().map(|r| r.step.clone()) else {
             return self.batch();
         };
@@ -445,7 +482,9 @@ impl<'a> Sequence<'a> {
 
     fn batch(&mut self) -> Call {
         let steps = self.script();
+        self.coming = steps.first().filter(|_| self.central.running.is_none()).and_then(one::age);
         let now = self.tick();
+        self.coming = None;
         let mut batch = Batch::new(now, steps);
         if self.rng.chance(25) {
             self.scatter(&mut batch);

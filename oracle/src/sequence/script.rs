@@ -1,7 +1,7 @@
 //! Steps and batches.
 
 use super::{Scene, Sequence, head};
-use crate::trace::{Batch, MOST_STEPS, MOST_VALUES, gate, value};
+use crate::trace::{Batch, MOST_STEPS, MOST_VALUES, gate, one, value};
 use oracle::ble::central::{Step, Target, Uuid};
 
 pub const KINDS: u64 = 13;
@@ -29,7 +29,7 @@ impl Sequence<'_> {
         }
     }
 
-    fn characteristic(&mut self) -> Uuid {
+    pub fn characteristic(&mut self) -> Uuid {
         let r = &mut self.rng;
         let (known, has) = (&self.central.characteristics, self.head.characteristics());
         match r.below(20) {
@@ -72,6 +72,18 @@ impl Sequence<'_> {
         }
     }
 
+    fn wait(&mut self) -> Step {
+        if self.profile.scene == Scene::Aged {
+            let n = self.rng.size(0, 3);
+            let contains = self.letters(n);
+            return one::wait(self.bay(), contains, self.ms(), self.age());
+        }
+        let n = if self.rng.chance(25) { 0 } else { self.rng.size(1, 5) };
+        let n = if self.rng.chance(4) { self.rng.size(100, gate::MOST_VALUE) } else { n };
+        let contains = self.letters(n);
+        one::wait(self.characteristic(), contains, self.ms(), self.age())
+    }
+
     pub fn step(&mut self, kind: u64) -> Step {
         match kind {
             0 => Step::Scan { ms: self.ms() },
@@ -92,12 +104,7 @@ impl Sequence<'_> {
                 Step::Write { characteristic: self.characteristic(), value, with_response: self.rng.flip() }
             }
             7 => Step::Read { characteristic: self.characteristic() },
-            8 => {
-                let n = if self.rng.chance(25) { 0 } else { self.rng.size(1, 5) };
-                let n = if self.rng.chance(4) { self.rng.size(100, gate::MOST_VALUE) } else { n };
-                let contains = self.letters(n);
-                Step::WaitNotification { characteristic: self.characteristic(), contains, within_ms: self.ms() }
-            }
+            8 => self.wait(),
             9 => Step::Wait { ms: self.ms() },
             10 => Step::Disconnect,
             11 => Step::Capture { enabled: self.rng.flip() },
@@ -165,7 +172,7 @@ impl Sequence<'_> {
         let write = Step::Write { characteristic: c, value, with_response: false };
         let mut steps = vec![write; 64];
         if self.central.running.is_none() && self.rng.chance(80) {
-            let wait = Step::WaitNotification { characteristic: c, contains: Vec::new(), within_ms: 60_000 };
+            let wait = one::wait(c, Vec::new(), 60_000, self.age());
             steps[0] = if self.rng.chance(70) { wait } else { self.step(10) };
         }
         steps
@@ -220,6 +227,8 @@ impl Sequence<'_> {
             Scene::Burst if linked_known || !self.groups.link || self.rng.chance(25) => self.burst(),
             Scene::Scan => self.some(&[0, 0, 0, 1, 9, 10]),
             Scene::Notify if linked_known => self.some(&[5, 8, 8, 8, 8, 9, 1, 7]),
+            Scene::Aged if linked_known => self.some(&[8, 8, 8, 8, 8, 8, 8, 9, 7, 10]),
+            Scene::Aged if linked => vec![self.step(4)],
             Scene::Discover if linked => self.some(&[3, 4, 4, 4, 4, 4, 2]),
             Scene::Peer if linked => self.some(&[9, 9, 6, 7, 2, 8]),
             _ => self.journey(),
@@ -268,7 +277,8 @@ impl Sequence<'_> {
             }
             3 => {
                 let (characteristic, contains) = (self.characteristic(), self.letters(long));
-                steps.push(Step::WaitNotification { characteristic, contains, within_ms: 1 });
+                let age_ms = self.age();
+                steps.push(one::wait(characteristic, contains, 1, age_ms));
             }
             _ => steps.push(Step::Write { characteristic: self.characteristic(), value: vec![1], with_response: true }),
         }

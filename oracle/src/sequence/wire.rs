@@ -258,7 +258,7 @@ impl Sequence<'_> {
         }
     }
 
-    fn notification(&mut self, handle: u16, value: &[u8]) -> Vec<u8> {
+    pub fn notification(&mut self, handle: u16, value: &[u8]) -> Vec<u8> {
         let op = if self.rng.chance(35) { att::HANDLE_VALUE_IND } else { att::HANDLE_VALUE_NTF };
         let mut p = vec![op];
         p.extend_from_slice(&handle.to_le_bytes());

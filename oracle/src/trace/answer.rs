@@ -1,6 +1,6 @@
 //! Plays a call on the oracle and says what it answered, also in the line of docs/TRACE.md.
 
-use super::{Batch, Call, NAMES, gate, kind, value};
+use super::{Batch, Call, NAMES, gate, kind, one, value};
 use oracle::ble::central::{AdvAction, Central, LlRequest, Running, Step, StepResult, StepStatus, Target, Uuid};
 
 /// What a call sent.
@@ -9,6 +9,16 @@ pub struct Sent {
     pub frames: Vec<Vec<u8>>,
     pub requests: Vec<LlRequest>,
     pub action: Option<AdvAction>,
+}
+
+/// The notification that a result names.
+#[derive(Clone, Debug, PartialEq)]
+pub struct Passed {
+    pub at_us: u64,
+    pub link: u64,
+    pub handle: u16,
+    pub indication: bool,
+    pub value: Vec<u8>,
 }
 
 /// What a call answered.
@@ -27,7 +37,8 @@ pub enum Answer {
     Time(Option<u64>),
     Handle(Option<u16>),
     Result(Option<StepResult>),
-    /// A dump: the answer is the state.
+    PassedOn(Option<Passed>),
+    /// A dump, or `links`: the answer is the state.
     State,
     /// What the oracle never answers.
     Other(String),
@@ -150,7 +161,11 @@ impl Line {
             }
             Step::Read { characteristic } => self.uuid(characteristic),
             Step::WaitNotification { characteristic, within_ms, .. } => {
-                self.uuid(characteristic).number(u64::from(*within_ms)).bytes(value(step))
+                self.uuid(characteristic).number(u64::from(*within_ms)).bytes(value(step));
+                match one::age(step) {
+                    None => self,
+                    Some(age_ms) => self.word("aged").number(u64::from(age_ms)),
+                }
             }
             Step::Capture { enabled } => self.flag(*enabled),
             Step::CaptureSecrets { secrets } => self.flag(*secrets),
@@ -217,6 +232,23 @@ impl Line {
         }
         self
     }
+
+    /// The count of links, the link of each notification, what each result names.
+    fn links(&mut self, c: &Central) -> &mut Line {
+        self.number(one::links(c)).number(c.notifications.len() as u64);
+        for n in &c.notifications {
+            self.number(one::link(n));
+        }
+        self.number(c.results.len() as u64);
+        for r in &c.results {
+            self.number(one::heard(r));
+        }
+        self
+    }
+
+    fn passed(&mut self, p: &Passed) -> &mut Line {
+        self.number(p.at_us).number(p.link).number(u64::from(p.handle)).flag(p.indication).bytes(&p.value)
+    }
 }
 
 /// A status' number, and the code that an ATT error carries.
@@ -265,7 +297,12 @@ pub fn play(c: &mut Central, call: &Call) -> (Answer, Sent) {
         }
         Call::ScanResponse { at, address, random, data } => c.on_scan_response(*at, *address, *random, data),
         Call::Fragment { at, start, data } => c.on_fragment(*start, data, *at),
-        Call::TimerUs | Call::ConnectedHandle | Call::Result { .. } | Call::Dump => {}
+        Call::TimerUs
+        | Call::ConnectedHandle
+        | Call::Result { .. }
+        | Call::PassedOn { .. }
+        | Call::Dump
+        | Call::Links => {}
     }
     sent.frames = c.take_frames();
     sent.requests = c.take_ll_requests();
@@ -286,24 +323,38 @@ pub fn play(c: &mut Central, call: &Call) -> (Answer, Sent) {
     (answer, sent)
 }
 
+fn passed(c: &Central, index: u32) -> Option<Passed> {
+    one::passed_on(c, index).map(|n| Passed {
+        at_us: n.at_us,
+        link: one::link(n),
+        handle: n.handle,
+        indication: n.indication,
+        value: n.value.clone(),
+    })
+}
+
 /// Of a call that sends nothing over the link.
 fn quiet(c: &Central, call: &Call, sent: &Sent) -> Answer {
     match call {
         Call::Fresh => Answer::Fresh,
-        Call::Dump => Answer::State,
+        Call::Dump | Call::Links => Answer::State,
         Call::TimerUs => Answer::Time(c.timer_us()),
         Call::ConnectedHandle => Answer::Handle(c.connected_handle()),
-        Call::Result { index } => Answer::Result(c.result(*index).cloned()),
+        Call::Result { index } => {
+            Answer::Result(c.result(*index).map(|r| one::result(r.index, r.at_us, r.status, r.value.clone())))
+        }
+        Call::PassedOn { index } => Answer::PassedOn(passed(c, *index)),
         _ => sent.action.map_or(Answer::Done, Answer::Action),
     }
 }
 
-/// The call's line, without its end; a dump's is made of the state that was left.
+/// The call's line, without its end; that of a dump or of `links` is made of the state that was left.
 pub fn line(call: &Call, answer: &Answer, left: &Central) -> Vec<u8> {
     let mut line = Line::default();
     line.word(NAMES[usize::from(call.tag())]);
     match answer {
         Answer::Fresh => &mut line,
+        Answer::State if *call == Call::Links => line.links(left),
         Answer::State => line.dump(left),
         Answer::Other(what) => line.word(what),
         Answer::Refused(refusal) => line.number(u64::from(*refusal)),
@@ -312,8 +363,9 @@ pub fn line(call: &Call, answer: &Answer, left: &Central) -> Vec<u8> {
         Answer::Action(action) => line.number(0).action(*action),
         Answer::Time(time) => line.number(0).option(*time),
         Answer::Handle(handle) => line.number(0).option(handle.map(u64::from)),
-        Answer::Result(None) => line.number(0).word("none"),
+        Answer::Result(None) | Answer::PassedOn(None) => line.number(0).word("none"),
         Answer::Result(Some(r)) => line.number(0).result(r),
+        Answer::PassedOn(Some(p)) => line.number(0).passed(p),
     };
     line.0
 }

@@ -1,6 +1,7 @@
 //! What 01 refuses, and steps that end for want of a table place: the Rust has no answer for these. The
 //! refusals are restated here from 01's table, from 3 on: with a fresh state to begin with and what a player
-//! lends, 1 and 2 don't come up.
+//! lends, 1 and 2 don't come up. Nor does 5 of a fragment or of a connected call: no trace is so long that
+//! `notified`, or the count of links of request One, comes to 2^62.
 
 use super::{Batch, Call, kind};
 use oracle::ble::central::{Central, Step};

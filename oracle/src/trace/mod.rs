@@ -2,6 +2,7 @@
 
 pub mod answer;
 pub mod gate;
+pub mod one;
 
 use oracle::ble::central::{Step, Target, Uuid};
 use std::io::{ErrorKind, Read};
@@ -20,10 +21,15 @@ pub mod tag {
     pub const CONNECTED_HANDLE: u8 = 9;
     pub const RESULT: u8 = 10;
     pub const DUMP: u8 = 11;
+    pub const LINKS: u8 = 12;
+    pub const PASSED_ON: u8 = 13;
 }
 
+/// How many records there are: the last two are of request One.
+pub const TAGS: usize = if one::IS_THERE { 14 } else { 12 };
+
 /// The word that a record's answer begins with, by tag.
-pub const NAMES: [&str; 12] = [
+pub const NAMES: [&str; 14] = [
     "fresh",
     "batch",
     "timer",
@@ -36,6 +42,8 @@ pub const NAMES: [&str; 12] = [
     "connected_handle",
     "result",
     "dump",
+    "links",
+    "passed_on",
 ];
 
 pub const HEADER: usize = 5;
@@ -73,6 +81,8 @@ pub enum Call {
     ConnectedHandle,
     Result { index: u32 },
     Dump,
+    Links,
+    PassedOn { index: u32 },
 }
 
 /// Why a trace can't be read further.
@@ -179,6 +189,10 @@ fn put_step(out: &mut Vec<u8>, step: &Step, (place, len): (u32, u32)) {
         Step::WaitNotification { characteristic, within_ms, .. } => {
             ms(&mut r, *within_ms);
             uuid(&mut r, characteristic);
+            if let Some(age_ms) = one::age(step) {
+                r[1] = 1;
+                r[8..12].copy_from_slice(&age_ms.to_le_bytes());
+            }
         }
         Step::Capture { enabled } => r[1] = u8::from(*enabled),
         Step::CaptureSecrets { secrets } => r[1] = u8::from(*secrets),
@@ -203,6 +217,8 @@ impl Call {
             Call::ConnectedHandle => tag::CONNECTED_HANDLE,
             Call::Result { .. } => tag::RESULT,
             Call::Dump => tag::DUMP,
+            Call::Links => tag::LINKS,
+            Call::PassedOn { .. } => tag::PASSED_ON,
         }
     }
 
@@ -210,7 +226,7 @@ impl Call {
         let at = out.len();
         out.extend_from_slice(&[self.tag(), 0, 0, 0, 0]);
         match self {
-            Call::Fresh | Call::TimerUs | Call::ConnectedHandle | Call::Dump => {}
+            Call::Fresh | Call::TimerUs | Call::ConnectedHandle | Call::Dump | Call::Links => {}
             Call::Batch(b) => {
                 out.extend_from_slice(&b.now.to_le_bytes());
                 out.extend_from_slice(&b.count.to_le_bytes());
@@ -243,7 +259,7 @@ impl Call {
                 out.push(u8::from(*start));
                 out.extend_from_slice(data);
             }
-            Call::Result { index } => out.extend_from_slice(&index.to_le_bytes()),
+            Call::Result { index } | Call::PassedOn { index } => out.extend_from_slice(&index.to_le_bytes()),
         }
         let len = (out.len() - at - HEADER) as u32;
         out[at + 1..at + HEADER].copy_from_slice(&len.to_le_bytes());
@@ -251,7 +267,7 @@ impl Call {
 }
 
 /// The least and the greatest body of each record, by tag.
-const BODY: [(usize, usize); 12] = [
+const BODY: [(usize, usize); 14] = [
     (0, 0),
     (12, 12 + MOST_STEPS * STEP + MOST_VALUES),
     (8, 8),
@@ -264,6 +280,8 @@ const BODY: [(usize, usize); 12] = [
     (0, 0),
     (4, 4),
     (0, 0),
+    (0, 0),
+    (4, 4),
 ];
 
 fn number(b: &[u8]) -> u64 {
@@ -272,6 +290,14 @@ fn number(b: &[u8]) -> u64 {
 
 fn flag(b: u8) -> Result<bool, Bad> {
     if b > 1 { Err(Bad::Field) } else { Ok(b == 1) }
+}
+
+/// The age of a wait, which without the extension can't be read.
+fn get_age(r: &[u8]) -> Result<Option<u32>, Bad> {
+    match flag(r[1])? {
+        true if !one::IS_THERE => Err(Bad::Field),
+        aged => Ok(aged.then_some(number(&r[8..12]) as u32)),
+    }
 }
 
 fn get_step(r: &[u8], values: &[u8]) -> Result<Step, Bad> {
@@ -300,7 +326,7 @@ fn get_step(r: &[u8], values: &[u8]) -> Result<Step, Bad> {
         5 => Step::Subscribe { characteristic: uuid, indicate: flag(r[1])? },
         6 => Step::Write { characteristic: uuid, value: value(), with_response: flag(r[1])? },
         7 => Step::Read { characteristic: uuid },
-        8 => Step::WaitNotification { characteristic: uuid, contains: value(), within_ms: ms },
+        8 => one::wait(uuid, value(), ms, get_age(r)?),
         9 => Step::Wait { ms },
         10 => Step::Disconnect,
         11 => Step::Capture { enabled: flag(r[1])? },
@@ -353,6 +379,8 @@ fn get(tag: u8, b: &[u8]) -> Result<Call, Bad> {
         tag::CONNECTED_HANDLE => Call::ConnectedHandle,
         tag::RESULT => Call::Result { index: number(b) as u32 },
         tag::DUMP => Call::Dump,
+        tag::LINKS => Call::Links,
+        tag::PASSED_ON => Call::PassedOn { index: number(b) as u32 },
         _ => return Err(Bad::Tag),
     })
 }
@@ -380,7 +408,7 @@ pub fn next(from: &mut impl Read) -> Result<Option<Call>, Bad> {
         _ => return Err(Bad::Cut),
     }
     let len = number(&head[1..]) as usize;
-    let &(least, most) = BODY.get(usize::from(head[0])).ok_or(Bad::Tag)?;
+    let &(least, most) = BODY[..TAGS].get(usize::from(head[0])).ok_or(Bad::Tag)?;
     if len < least || len > most {
         return Err(Bad::Length);
     }

@@ -26,8 +26,8 @@ returns c =
 
 tables-fit-requires : tie.Need-tables-fit-requires
 tables-fit-requires c κs =
-    let a = (c .before .before .before .args) in
-    counts-fit (a .c) _ (c .before .before .core-fits .ensures) (c .before .if1 .left)
+    let a = (c .before .before .before .before .args) in
+    counts-fit (a .c) _ (c .before .before .before .core-fits .ensures) (c .before .before .if1 .left)
 
 sizes-fit-requires : tie.Need-sizes-fit-requires
 sizes-fit-requires c κs = search needs
@@ -41,8 +41,8 @@ first-refusal-requires c κs = search needs
 returns-2 : tie.Need-returns-2
 returns-2 c =
     let g = c .before in
-    let a = (g .before .before .before .before .before .before .before .args) in
-    let fit = all-fit (a .c) _ (g .before .before .before .before .before .before .core-fits .ensures) (g .before .before .before .before .before .if1 .left) (a .tables .now) _
+    let a = (g .before .before .before .before .before .before .before .before .args) in
+    let fit = all-fit (a .c) _ (g .before .before .before .before .before .before .before .core-fits .ensures) (g .before .before .before .before .before .before .if1 .left) (a .tables .now) _
     (g .before .before .before .tables-fit .ensures) in
     let shared = gate-parts (central (a .c) (a .tables .now)) (a .store-len) (a .out-len) (a .at) _ _ _ _ fit
     (g .before .before .sizes-fit .ensures) (g .before .too-late .ensures) (g .first-refusal .ensures) in
@@ -59,14 +59,14 @@ fragment-refusal-requires c κs = search needs
 
 returns-3 : tie.Need-returns-3
 returns-3 c =
-    let g = c .before .before .before .before .before .before in
-    let a = (g .before .before .before .before .before .before .before .args) in
-    let fit = all-fit (a .c) _ (g .before .before .before .before .before .before .core-fits .ensures) (g .before .before .before .before .before .if1 .left) (a .tables .now) _
+    let g = c .before .before .before .before .before in
+    let a = (g .before .before .before .before .before .before .before .before .args) in
+    let fit = all-fit (a .c) _ (g .before .before .before .before .before .before .before .core-fits .ensures) (g .before .before .before .before .before .before .if1 .left) (a .tables .now) _
     (g .before .before .before .tables-fit .ensures) in
     let shared = gate-parts (central (a .c) (a .tables .now)) (a .store-len) (a .out-len) (a .at) _ _ _ _ fit
     (g .before .before .sizes-fit .ensures) (g .before .too-late .ensures) (g .first-refusal .ensures) in
     gate-own (central (a .c) (a .tables .now)) (a .store-len) (a .out-len) (a .at) (a .start) (a .n) _ shared
-    (c .before .before .before .before .before .if2 .left)
+    (c .before .before .before .before .if2 .left)
     _ (c .before .before .is-full .ensures) _ (c .before .held-fits .ensures) _ (c .fragment-refusal .ensures)
 
 pub gate-fragment-spec : {M : Type 1} → statement M

@@ -26,6 +26,7 @@ check-wait-requires c κs =
     let a = (c .before .before .before .before .before .before .before .before .before .before .before .before .before .before .before .before .before .args) in
     may-look (a .t) (a .tables .now) (a .store .now) (a .out .now) (a .at) (a .n) (a .indication)
     (c .before .before .before .before .before .before .before .before .before .before .before .before .before .before .before .before .before .pre .0)
+    (c .before .before .before .before .before .before .before .before .before .before .before .before .before .before .before .before .before .pre .2)
     _ _ _ _ (c .before .before .before .before .keep-one .ensures)
 
 same-length : tie.Need-same-length

@@ -1,5 +1,7 @@
-use mathlib.Core.Path.{refl}
-use Rattle.script_events.proofs.GateLaws.{call-begins, call-done, call-refused}
+use mathlib.Core.Path.{refl, sym, _∙_}
+use Rattle.script_events.proofs.GateLaws.{call-begins, call-done, call-refused, few-links}
+use Rattle.script_rules.proofs.CallBeginLaws.{may-connect}
+use Rattle.state_core.specs.Reading.{central}
 use Rattle.script_rules.specs.Comings.{connect}
 use Rattle.script_rules.specs.Events.{onConnected}
 use Rattle.script_rules.specs.World.{World}
@@ -12,10 +14,10 @@ use Rattle.central_answers.proofs.begin.Reads as begin-reads
 use Rattle.central_answers.proofs.done.Reads as done-reads
 use Rattle.central_answers.proofs.refuse.Reads as refuse-reads
 use Rattle.script_events.proofs.connect.Reads as connect-reads
-use Rattle.state_fit.proofs.gate.Reads as gate-reads
+use Rattle.script_events.proofs.gate_connected.Reads as gate-connected-reads
 
-gate-requires : tie.Need-gate-requires
-gate-requires c κs = search needs
+gate-connected-requires : tie.Need-gate-connected-requires
+gate-connected-requires c κs = search needs
 
 begin-requires : tie.Need-begin-requires
 begin-requires c κs = search needs
@@ -23,11 +25,17 @@ begin-requires c κs = search needs
 connect-requires : tie.Need-connect-requires
 connect-requires c κs =
     let a = (c .before .before .before .before .before .before .before .before .before .args) in
-    call-begins (λ (w : World). connect w (a .handle) (a .at))
-    (a .core) (a .tables .now) (a .store .now) (a .out .now) (a .at)
-    _ (c .before .before .before .before .before .gate .ensures)
-    (c .before .before .before .before .if1 .taken)
-    _ (c .before .before .before .begin .ensures)
+    let m = may-connect (central (a .core) (a .tables .now)) (a .store .now) (a .out .now) (a .at)
+    (sym (c .before .before .before .before .before .gate-connected .ensures) ∙ (c .before .before .before .before .if1 .taken)) in
+    let b = (c .before .before .before .begin .ensures) in (
+      call-begins (λ (w : World). connect w (a .handle) (a .at))
+          (a .core) (a .tables .now) (a .store .now) (a .out .now)
+          _ _ (c .before .before .before .before .before .gate-connected .ensures)
+          (c .before .before .before .before .if1 .taken)
+          _ b (m .0),
+      m .1,
+      few-links (a .core) (a .tables .now) (a .store .now) (a .out .now) _ b (m .2),
+    )
 
 done-requires : tie.Need-done-requires
 done-requires c κs = search needs
@@ -44,8 +52,8 @@ returns c =
     let a = (c .before .before .before .before .before .before .before .before .before .before .before .before .before .before .before .args) in
     let d = (c .done .ensures) in (
       call-done (λ (w : World). connect w (a .handle) (a .at))
-          (a .core) (a .tables .now) (a .store .now) (a .out .now) (a .at)
-          _ (c .before .before .before .before .before .before .before .before .before .before .before .gate .ensures)
+          (a .core) (a .tables .now) (a .store .now) (a .out .now)
+          _ _ (c .before .before .before .before .before .before .before .before .before .before .before .gate-connected .ensures)
           (c .before .before .before .before .before .before .before .before .before .before .if1 .taken)
           _ (c .before .before .before .before .before .before .before .before .before .begin .ensures)
           _ _ _ _ _ (c .before .before .before .before .before .connect .ensures)
@@ -62,8 +70,8 @@ returns-2 c =
     let a = (c .before .before .before .before .before .before .args) in
     let d = (c .refuse .ensures) in (
       call-refused (λ (w : World). connect w (a .handle) (a .at))
-          (a .core) (a .tables .now) (a .store .now) (a .out .now) (a .at)
-          _ (c .before .before .gate .ensures)
+          (a .core) (a .tables .now) (a .store .now) (a .out .now)
+          _ _ (c .before .before .gate-connected .ensures)
           _ (c .before .if1 .left)
           (d .2),
       (λ h. (d .0, refl, refl), λ h. refl),
@@ -73,7 +81,7 @@ pub on-connected-spec : {M : Type 1} → statement M
 on-connected-spec =
     tie.close
     (tie.spec
-    gate-requires
+    gate-connected-requires
     begin-requires
     connect-requires
     done-requires

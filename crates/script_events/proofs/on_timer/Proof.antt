@@ -1,5 +1,7 @@
-use mathlib.Core.Path.{refl}
+use mathlib.Core.Path.{refl, sym, _∙_}
 use Rattle.script_events.proofs.GateLaws.{call-begins, call-done, call-refused}
+use Rattle.script_rules.proofs.CallBeginLaws.{may-begin}
+use Rattle.state_core.specs.Reading.{central}
 use Rattle.script_rules.specs.Comings.{expire}
 use Rattle.script_rules.specs.Events.{onTimer}
 use Rattle.script_rules.specs.World.{World}
@@ -23,11 +25,16 @@ begin-requires c κs = search needs
 expire-requires : tie.Need-expire-requires
 expire-requires c κs =
     let a = (c .before .before .before .before .before .before .before .before .before .args) in
-    call-begins (λ (w : World). expire w (a .at))
-    (a .core) (a .tables .now) (a .store .now) (a .out .now) (a .at)
-    _ (c .before .before .before .before .before .gate .ensures)
-    (c .before .before .before .before .if1 .taken)
-    _ (c .before .before .before .begin .ensures)
+    let m = may-begin (central (a .core) (a .tables .now)) (a .store .now) (a .out .now) (a .at)
+    (sym (c .before .before .before .before .before .gate .ensures) ∙ (c .before .before .before .before .if1 .taken)) in (
+      call-begins (λ (w : World). expire w (a .at))
+          (a .core) (a .tables .now) (a .store .now) (a .out .now)
+          _ _ (c .before .before .before .before .before .gate .ensures)
+          (c .before .before .before .before .if1 .taken)
+          _ (c .before .before .before .begin .ensures)
+          (m .0),
+      m .1,
+    )
 
 done-requires : tie.Need-done-requires
 done-requires c κs = search needs
@@ -44,8 +51,8 @@ returns c =
     let a = (c .before .before .before .before .before .before .before .before .before .before .before .before .before .before .before .args) in
     let d = (c .done .ensures) in (
       call-done (λ (w : World). expire w (a .at))
-          (a .core) (a .tables .now) (a .store .now) (a .out .now) (a .at)
-          _ (c .before .before .before .before .before .before .before .before .before .before .before .gate .ensures)
+          (a .core) (a .tables .now) (a .store .now) (a .out .now)
+          _ _ (c .before .before .before .before .before .before .before .before .before .before .before .gate .ensures)
           (c .before .before .before .before .before .before .before .before .before .before .if1 .taken)
           _ (c .before .before .before .before .before .before .before .before .before .begin .ensures)
           _ _ _ _ _ (c .before .before .before .before .before .expire .ensures)
@@ -62,8 +69,8 @@ returns-2 c =
     let a = (c .before .before .before .before .before .before .args) in
     let d = (c .refuse .ensures) in (
       call-refused (λ (w : World). expire w (a .at))
-          (a .core) (a .tables .now) (a .store .now) (a .out .now) (a .at)
-          _ (c .before .before .gate .ensures)
+          (a .core) (a .tables .now) (a .store .now) (a .out .now)
+          _ _ (c .before .before .gate .ensures)
           _ (c .before .if1 .left)
           (d .2),
       (λ h. (d .0, refl, refl), λ h. refl),

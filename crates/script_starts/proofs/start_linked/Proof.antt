@@ -165,7 +165,7 @@ same-length-12 : tie.Need-same-length-12
 same-length-12 c = search needs
 
 returns-9 : tie.Need-returns-9
-returns-9 c = (c .before .before .start-wait .ensures) _ ∙ begin-notification _ _ _ _ _ (c .before .before .before .before .before .before .step7 .given .1)
+returns-9 c = (c .before .before .start-wait .ensures) _ ∙ begin-notification _ _ _ _ _ _ (c .before .before .before .before .before .before .step7 .given .1)
 
 returns-10 : tie.Need-returns-10
 returns-10 c = (c .run-for2 .ensures) _ _ _ ∙ begin-wait _ _ _ _ (c .before .before .step8 .given .1)

@@ -21,10 +21,10 @@ same-length : tie.Need-same-length
 same-length c = search needs
 
 returns : tie.Need-returns
-returns c = finish-on (c .before .before .before .before .before .before .before .before .before .before .before .before .args .c) _ (c .before .before .before .before .before .before .before .before .before .before .before .before .args .store .now) _ _ _ _ _ _ _ _ ((c .before .before .before .before .before .before .before .before .before .if1 .taken)) ((c .before .before .before .before .before .before .keep-value .ensures)) ((c .before .before .push-result .ensures)) ((c .answered .ensures))
+returns c = finish-on (c .before .before .before .before .before .before .before .before .before .before .before .before .args .c) _ (c .before .before .before .before .before .before .before .before .before .before .before .before .args .store .now) _ _ _ _ _ _ _ _ _ ((c .before .before .before .before .before .before .before .before .before .if1 .taken)) ((c .before .before .before .before .before .before .keep-value .ensures)) ((c .before .before .push-result .ensures)) ((c .answered .ensures))
 
 returns-2 : tie.Need-returns-2
-returns-2 c = finish-off _ _ _ _ _ _ _ ((c .if1 .left))
+returns-2 c = finish-off _ _ _ _ _ _ _ _ ((c .if1 .left))
 
 pub finish-spec : {M : Type 1} → statement M
 finish-spec =

@@ -14,8 +14,8 @@ awaited-by-requires c κs = search needs
 enum-told : tie.Need-enum-told
 enum-told c = search needs
 
-enum-known-uuid : tie.Need-enum-known-uuid
-enum-known-uuid c = search needs
+enum-known-characteristic : tie.Need-enum-known-characteristic
+enum-known-characteristic c = search needs
 
 find-characteristic-requires : tie.Need-find-characteristic-requires
 find-characteristic-requires c κs = search needs
@@ -31,10 +31,10 @@ same-length c = search needs
 
 returns-2 : tie.Need-returns-2
 returns-2 c =
-    check-named (c .before .before .before .before .before .before .before .before .before .before .before .before .before .before .before .args .c) _ _ _ _ _ _ _
+    check-named (c .before .before .before .before .before .before .before .before .before .before .before .before .before .before .before .args .c) _ _ _ _ _ _ _ _
     (c .before .before .before .before .before .before .before .before .before .before .before .before .if1 .taken)
     (c .before .before .before .before .before .before .before .before .before .before .before .awaited-by .ensures)
-    (c .before .before .before .before .before .before .before .before .before .uuid .given .1) (c .before .before .before .before .before .find-characteristic .ensures)
+    (c .before .before .before .before .before .before .before .before .before .characteristic .given .1) (c .before .before .before .before .before .find-characteristic .ensures)
     (c .before .before .check-one .ensures)
 
 returns-3 : tie.Need-returns-3
@@ -46,7 +46,7 @@ check-wait-spec =
     (tie.spec
     awaited-by-requires
     enum-told
-    enum-known-uuid
+    enum-known-characteristic
     find-characteristic-requires
     check-one-requires
     returns

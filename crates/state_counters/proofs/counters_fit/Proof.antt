@@ -15,7 +15,7 @@ index-fits-requires c κs = search needs
 
 returns : tie.Need-returns
 unfolding countersFit
-returns c = rw (c .before .before .before .before .before .long .ensures, c .index-fits .ensures)
+returns c = rw (c .before .before .before .before .before .before .long .ensures, c .before .index-fits .ensures)
 
 pub counters-fit-spec : {M : Type 1} → statement M
 counters-fit-spec = tie.close (tie.spec long-requires index-fits-requires returns)

@@ -7,10 +7,10 @@ use Rattle.tool_tells.proofs.frames.Statement.{statement}
 use Rattle.tool_tells.proofs.frames.Tie as tie
 
 abbrev Inv-loop : tie.InvT-loop
-Inv-loop out bytes at₀ at = (at ≤ bytes) × (bytes ≤ length out)
+Inv-loop line out bytes at₀ at = (at ≤ bytes) × (bytes ≤ length out)
 
 abbrev μ-loop : tie.MeasureT-loop
-μ-loop out bytes at₀ at = bytes - at
+μ-loop line out bytes at₀ at = bytes - at
 
 returns : tie.Need-returns Inv-loop μ-loop
 returns c = search needs

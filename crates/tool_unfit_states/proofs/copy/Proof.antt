@@ -7,10 +7,10 @@ use Rattle.tool_unfit_states.proofs.copy.Statement.{statement}
 use Rattle.tool_unfit_states.proofs.copy.Tie as tie
 
 abbrev Inv-loop : tie.InvT-loop
-Inv-loop m₀ from to i₀ m i = (i ≤ 2048) × (length m ≡ length m₀)
+Inv-loop m₀ from to i₀ m i = (i ≤ 4096) × (length m ≡ length m₀)
 
 abbrev μ-loop : tie.MeasureT-loop
-μ-loop m₀ from to i₀ m i = 2048 - i
+μ-loop m₀ from to i₀ m i = 4096 - i
 
 loop-holds : tie.Need-loop-holds Inv-loop μ-loop
 loop-holds c = search needs

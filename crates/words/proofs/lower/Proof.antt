@@ -12,7 +12,7 @@ use Rattle.words.proofs.lower.Lts as lts
 use Rattle.words.proofs.size.Reads as size-reads
 
 abbrev Inv-loop : tie.InvT-loop
-Inv-loop tables₀ at n all i₀ tables i = (length tables₀ ≡ 1056) × (i ≤ n) × (at + n < 1056) × Lowered tables₀ tables at i
+Inv-loop tables₀ at n all i₀ tables i = (length tables₀ ≡ 1152) × (i ≤ n) × (at + n < 1152) × Lowered tables₀ tables at i
 
 abbrev μ-loop : tie.MeasureT-loop
 μ-loop tables₀ at n all i₀ tables i = n - i
@@ -21,7 +21,7 @@ size-requires : tie.Need-size-requires Inv-loop μ-loop
 size-requires c κs = search needs
 
 loop-holds : tie.Need-loop-holds Inv-loop μ-loop
-loop-holds c = let l : length ((c .before .before .before .args .tables .now)) ≡ 1056 = search needs in (l, omega arith, (c .before .before .before .pre), lower-none _ _)
+loop-holds c = let l : length ((c .before .before .before .args .tables .now)) ≡ 1152 = search needs in (l, omega arith, (c .before .before .before .pre), lower-none _ _)
 
 add-p : tie.Need-add-p Inv-loop μ-loop
 add-p c = omega arith

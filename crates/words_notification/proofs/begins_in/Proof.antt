@@ -13,10 +13,10 @@ use Rattle.state_places.proofs.notification_at.Reads as notification-at-reads
 use Rattle.words_notification.proofs.goes_on.Reads as goes-on-reads
 
 abbrev Inv-loop : tie.InvT-loop
-Inv-loop tables count handle store i tries at m place b k₀ k = (k ≤ tries) × (stands handle tables store count i 0 at m ≡ stands handle tables store count i k at m)
+Inv-loop tables count wanted store i tries at m place b k₀ k = (k ≤ tries) × (stands wanted tables store count i 0 at m ≡ stands wanted tables store count i k at m)
 
 abbrev μ-loop : tie.MeasureT-loop
-μ-loop tables count handle store i tries at m place b k₀ k = tries - k
+μ-loop tables count wanted store i tries at m place b k₀ k = tries - k
 
 notification-at-requires : tie.Need-notification-at-requires Inv-loop μ-loop
 notification-at-requires c κs = omega (arith, (c .before .pre .0 .0), (c .before .pre .1))
@@ -38,7 +38,7 @@ add-if1 c =
       q .0 .0,
       q .1,
       q .2,
-      size-small (a .handle) (a .tables .now) (a .store .now) (a .count) (a .i)
+      size-small (a .wanted) (a .tables .now) (a .store .now) (a .count) (a .i)
           (a .at) (a .m) (q .0) (q .1),
     )
 
@@ -54,7 +54,7 @@ shared-slice-read-if1 c =
       q .0 .2,
       q .1,
       q .2,
-      size-small (a .handle) (a .tables .now) (a .store .now)
+      size-small (a .wanted) (a .tables .now) (a .store .now)
           (a .count) (a .i) (a .at) (a .m) (q .0) (q .1),
     )
 
@@ -63,14 +63,14 @@ add-goes-on c =
     let l = c .before .before .before .loop in
     let a = c .before .before .before .before .before .before .before .args in
     let q = c .before .before .before .before .before .before .before .pre in
-    omega (arith, q .2, size-small (a .handle) (a .tables .now) (a .store .now) (a .count) (a .i) (a .at) (a .m) (q .0) (q .1))
+    omega (arith, q .2, size-small (a .wanted) (a .tables .now) (a .store .now) (a .count) (a .i) (a .at) (a .m) (q .0) (q .1))
 
 goes-on-requires : tie.Need-goes-on-requires Inv-loop μ-loop
 goes-on-requires c κs =
     let l = c .before .before .before .loop in
     let a = c .before .before .before .before .before .before .before .args in
     let q = c .before .before .before .before .before .before .before .pre in
-    (q .0, omega (arith, q .2), omega (arith, q .0 .4, q .3, length-drop (l .k + 1) (joined (a .handle) (a .tables .now) (a .store .now) (a .count) (a .i))))
+    (q .0, omega (arith, q .2), omega (arith, q .0 .4, q .3, length-drop (l .k + 1) (joined (a .wanted) (a .tables .now) (a .store .now) (a .count) (a .i))))
 
 returns : tie.Need-returns Inv-loop μ-loop
 returns c =
@@ -79,7 +79,7 @@ returns c =
     let q = c .before .before .before .before .before .before .before .before .before .pre in
     let place = c .before .before .before .before .before .before .before .notification-at .ensures in
     l .inv .1
-    ∙ byte-found (a .handle) (a .tables .now) (a .store .now) (a .count) (a .i) (a .at) (a .m) (q .0) (q .1) _ _ place refl (l .k) (omega (arith, q .2))
+    ∙ byte-found (a .wanted) (a .tables .now) (a .store .now) (a .count) (a .i) (a .at) (a .m) (q .0) (q .1) _ _ place refl (l .k) (omega (arith, q .2))
     (c .before .before .if1 .taken) _ (c .before .goes-on .ensures) (c .if2 .taken)
 
 add-k : tie.Need-add-k Inv-loop μ-loop
@@ -87,7 +87,7 @@ add-k c =
     let l = c .before .before .before .loop in
     let a = c .before .before .before .before .before .before .before .args in
     let q = c .before .before .before .before .before .before .before .pre in
-    omega (arith, q .2, size-small (a .handle) (a .tables .now) (a .store .now) (a .count) (a .i) (a .at) (a .m) (q .0) (q .1))
+    omega (arith, q .2, size-small (a .wanted) (a .tables .now) (a .store .now) (a .count) (a .i) (a .at) (a .m) (q .0) (q .1))
 
 loop-less : tie.Need-loop-less Inv-loop μ-loop
 loop-less c = omega arith
@@ -101,9 +101,9 @@ loop-again c =
       omega arith,
       l .inv .1
           ∙ ⊎-elim
-          (λ w. byte-passed (a .handle) (a .tables .now) (a .store .now) (a .count) (a .i) (a .at) (a .m) (q .0) (q .1) _ _ place refl (l .k) (omega (arith, q .2))
+          (λ w. byte-passed (a .wanted) (a .tables .now) (a .store .now) (a .count) (a .i) (a .at) (a .m) (q .0) (q .1) _ _ place refl (l .k) (omega (arith, q .2))
           (w .0 .taken) _ (w .1 .ensures) (w .2 .left))
-          (λ w. byte-differs (a .handle) (a .tables .now) (a .store .now) (a .count) (a .i) (a .at) (a .m) (q .0) (q .1) _ _ place refl (l .k) (omega (arith, q .2)) (w .left))
+          (λ w. byte-differs (a .wanted) (a .tables .now) (a .store .now) (a .count) (a .i) (a .at) (a .m) (q .0) (q .1) _ _ place refl (l .k) (omega (arith, q .2)) (w .left))
           (c .if1 .came),
     )
 
@@ -112,7 +112,7 @@ returns-2 c =
     let l = c .before .loop in
     let a = c .before .before .before .before .before .args in
     let e : l .k ≡ a .tries = omega (arith, l .inv .0, (c .loop-test .left)) in
-    l .inv .1 ∙ ap (λ (k : ℕ). stands (a .handle) (a .tables .now) (a .store .now) (a .count) (a .i) k (a .at) (a .m)) e
+    l .inv .1 ∙ ap (λ (k : ℕ). stands (a .wanted) (a .tables .now) (a .store .now) (a .count) (a .i) k (a .at) (a .m)) e
 
 pub begins-in-spec : {M : Type 1} → statement M
 begins-in-spec =

@@ -2,6 +2,7 @@ use Prim.Native.Nat.{ℕ, _-_}
 use mathlib.Core.Path.{_≡_, refl, sym, _∙_}
 use mathlib.Core.List.{List}
 use native.Mathlib.Omega.{arith}
+use borrow.Author.Needs.{needs}
 use lib.ListN.{drop}
 use Rattle.notifications.specs.Kept.{live, heard}
 use Rattle.notifications.specs.Wait.{any}
@@ -11,31 +12,32 @@ use Rattle.words_notification.proofs.is_any.Statement.{statement}
 use Rattle.words_notification.proofs.is_any.Tie as tie
 use Rattle.words_notification.proofs.is_any.Reads as reads
 use Rattle.words_notification.proofs.is_any.Lts as lts
+use Rattle.notifications.proofs.does_count.Reads as does-count-reads
+use Rattle.words_notification.proofs.notification_at.Reads as notification-at-reads
 
 abbrev Inv-loop : tie.InvT-loop
-Inv-loop tables count skip handle sought i₀ i =
-    (s : List ℕ) → any handle (drop skip (heard s (live (keptIn tables count)))) ≡ any handle (drop i (heard s (live (keptIn tables count))))
+Inv-loop tables count skip wanted i₀ i =
+    (s : List ℕ) → any wanted (drop skip (heard s (live (keptIn tables count)))) ≡ any wanted (drop i (heard s (live (keptIn tables count))))
 
 abbrev μ-loop : tie.MeasureT-loop
-μ-loop tables count skip handle sought i₀ i = count - i
+μ-loop tables count skip wanted i₀ i = count - i
 
 loop-holds : tie.Need-loop-holds Inv-loop μ-loop
 loop-holds c = λ s. refl
 
-add-p : tie.Need-add-p Inv-loop μ-loop
-add-p c = omega arith
+notification-at-requires : tie.Need-notification-at-requires Inv-loop μ-loop
+notification-at-requires c κs = omega arith
 
-mul-if1 : tie.Need-mul-if1 Inv-loop μ-loop
-mul-if1 c = omega arith
-
-element-copy-out-if1 : tie.Need-element-copy-out-if1 Inv-loop μ-loop
-element-copy-out-if1 c = omega arith
+does-count-requires : tie.Need-does-count-requires Inv-loop μ-loop
+does-count-requires c κs = search needs
 
 returns : tie.Need-returns Inv-loop μ-loop
 returns c =
-    let l = c .before .before .before .loop in
-    let a = c .before .before .before .before .args in
-    λ s. sym (l .inv s ∙ is-hit (a .tables .now) (a .count) (l .i) (a .handle) s (c .before .before .before .before .pre) (c .before .before .loop-test .taken) (c .if1 .taken))
+    let l = c .before .before .before .before .loop in
+    let a = c .before .before .before .before .before .args in
+    let t = c .before .before .before .loop-test .taken in
+    let x = c .before .before .notification-at .ensures in
+    λ s. sym (l .inv s ∙ is-hit (a .tables .now) (a .count) (l .i) (a .wanted) (c .before .before .before .before .before .pre) _ _ t x (c .before .does-count .ensures) s (c .if1 .taken))
 
 add-i : tie.Need-add-i Inv-loop μ-loop
 add-i c = omega arith
@@ -45,15 +47,17 @@ loop-less c = omega arith
 
 loop-again : tie.Need-loop-again Inv-loop μ-loop
 loop-again c =
-    let l = c .before .before .before .loop in
-    let a = c .before .before .before .before .args in
-    λ s. l .inv s ∙ is-pass (a .tables .now) (a .count) (l .i) (a .handle) s (c .before .before .before .before .pre) (c .before .before .loop-test .taken) (c .if1 .left)
+    let l = c .before .before .before .before .loop in
+    let a = c .before .before .before .before .before .args in
+    let t = c .before .before .before .loop-test .taken in
+    let x = c .before .before .notification-at .ensures in
+    λ s. l .inv s ∙ is-pass (a .tables .now) (a .count) (l .i) (a .wanted) (c .before .before .before .before .before .pre) _ _ t x (c .before .does-count .ensures) s (c .if1 .left)
 
 returns-2 : tie.Need-returns-2 Inv-loop μ-loop
 returns-2 c =
     let l = c .before .loop in
     let a = c .before .before .args in
-    λ s. sym (l .inv s ∙ is-end (a .tables .now) (a .count) (l .i) (a .handle) s (c .before .before .pre) (c .loop-test .left))
+    λ s. sym (l .inv s ∙ is-end (a .tables .now) (a .count) (l .i) (a .wanted) (c .before .before .pre) s (c .loop-test .left))
 
 pub is-any-spec : {M : Type 1} → statement M
 is-any-spec =
@@ -62,9 +66,8 @@ is-any-spec =
     Inv-loop
     μ-loop
     loop-holds
-    add-p
-    mul-if1
-    element-copy-out-if1
+    notification-at-requires
+    does-count-requires
     returns
     add-i
     loop-less

@@ -15,13 +15,13 @@ use Rattle.words_notification.proofs.least.Reads as least-reads
 use Rattle.words_notification.proofs.own_size.Reads as own-size-reads
 
 abbrev Inv-loop : tie.InvT-loop
-Inv-loop tables count skip handle store at m rest₀ i₀ rest i =
-    (stands handle tables store count skip 0 at m ≡ stands handle tables store count i 0 at m)
-    × (rest ≡ length (joined handle tables store count i))
+Inv-loop tables count skip wanted store at m rest₀ i₀ rest i =
+    (stands wanted tables store count skip 0 at m ≡ stands wanted tables store count i 0 at m)
+    × (rest ≡ length (joined wanted tables store count i))
     × (m ≤ rest → i < count)
 
 abbrev μ-loop : tie.MeasureT-loop
-μ-loop tables count skip handle store at m rest₀ i₀ rest i = count - i
+μ-loop tables count skip wanted store at m rest₀ i₀ rest i = count - i
 
 joined-size-requires : tie.Need-joined-size-requires Inv-loop μ-loop
 joined-size-requires c κs = ((c .before .pre .0), (c .before .pre .1))
@@ -31,35 +31,26 @@ loop-holds c =
     let a = c .before .before .args in
     let q = c .before .before .pre in
     let e = (c .joined-size .ensures) (a .store .now) (q .2) in
-    (refl, e, λ t. still (a .handle) (a .tables .now) (a .store .now) (a .count) (a .skip) (q .0) (omega (arith, e, t, q .4)))
-
-add-p : tie.Need-add-p Inv-loop μ-loop
-add-p c = let p = (c .before .loop .inv .2) (c .loop-test .taken) in omega (arith, (c .before .before .before .before .pre .0))
-
-mul-word : tie.Need-mul-word Inv-loop μ-loop
-mul-word c = let p = (c .before .loop .inv .2) (c .loop-test .taken) in omega (arith, (c .before .before .before .before .pre .0))
-
-element-copy-out-word : tie.Need-element-copy-out-word Inv-loop μ-loop
-element-copy-out-word c = let p = (c .before .loop .inv .2) (c .loop-test .taken) in omega (arith, (c .before .before .before .before .pre .0))
+    (refl, e, λ t. still (a .wanted) (a .tables .now) (a .store .now) (a .count) (a .skip) (q .0) (omega (arith, e, t, q .4)))
 
 own-size-requires : tie.Need-own-size-requires Inv-loop μ-loop
-own-size-requires c κs = search needs
+own-size-requires c κs = let p = (c .before .loop .inv .2) (c .loop-test .taken) in omega (arith, (c .before .before .before .before .pre .0))
 
 sub-least : tie.Need-sub-least Inv-loop μ-loop
-sub-least c = omega (arith, (c .before .before .before .before .before .before .pre .4))
+sub-least c = omega (arith, (c .before .before .before .before .before .pre .4))
 
 sub-least-2 : tie.Need-sub-least-2 Inv-loop μ-loop
-sub-least-2 c = omega (arith, (c .before .before .before .before .before .before .pre .4))
+sub-least-2 c = omega (arith, (c .before .before .before .before .before .pre .4))
 
 least-requires : tie.Need-least-requires Inv-loop μ-loop
 least-requires c κs = search needs
 
 begins-in-requires : tie.Need-begins-in-requires Inv-loop μ-loop
 begins-in-requires c κs =
-    let l = c .before .before .before .before .loop in
-    let a = c .before .before .before .before .before .before .before .args in
-    let q = c .before .before .before .before .before .before .before .pre in
-    let t = c .before .before .before .loop-test .taken in
+    let l = c .before .before .before .loop in
+    let a = c .before .before .before .before .before .before .args in
+    let q = c .before .before .before .before .before .before .pre in
+    let t = c .before .before .loop-test .taken in
     let p = l .inv .2 t in
     let z = c .before .own-size .ensures in
     let n = c .least .ensures in
@@ -67,51 +58,51 @@ begins-in-requires c κs =
 
 returns : tie.Need-returns Inv-loop μ-loop
 returns c =
-    let l = c .before .before .before .before .before .before .loop in
-    let a = c .before .before .before .before .before .before .before .before .before .args in
-    let q = c .before .before .before .before .before .before .before .before .before .pre in
-    let t = c .before .before .before .before .before .loop-test .taken in
+    let l = c .before .before .before .before .before .loop in
+    let a = c .before .before .before .before .before .before .before .before .args in
+    let q = c .before .before .before .before .before .before .before .before .pre in
+    let t = c .before .before .before .before .loop-test .taken in
     let p = l .inv .2 t in
     let z = c .before .before .before .own-size .ensures in
     sym (l .inv .0
-    ∙ place-found (a .handle) (a .tables .now) (a .store .now) (a .count) (l .i) (a .at) (a .m) q p _ _ refl z (c .before .begins-in .result)
+    ∙ place-found (a .wanted) (a .tables .now) (a .store .now) (a .count) (l .i) (a .at) (a .m) q p _ _ refl z (c .before .begins-in .result)
     (c .before .before .least .result) (c .before .begins-in .ensures) (c .if1 .taken))
 
 sub-rest : tie.Need-sub-rest Inv-loop μ-loop
 sub-rest c =
-    let l = c .before .before .before .before .before .before .loop in
-    let a = c .before .before .before .before .before .before .before .before .before .args in
-    let q = c .before .before .before .before .before .before .before .before .before .pre in
-    let t = c .before .before .before .before .before .loop-test .taken in
+    let l = c .before .before .before .before .before .loop in
+    let a = c .before .before .before .before .before .before .before .before .args in
+    let q = c .before .before .before .before .before .before .before .before .pre in
+    let t = c .before .before .before .before .loop-test .taken in
     let p = l .inv .2 t in
     let z = c .before .before .before .own-size .ensures in
-    omega (arith, z, l .inv .1, size-length (a .handle) (a .tables .now) (a .store .now) (a .count) (l .i) (a .at) (a .m) q p)
+    omega (arith, z, l .inv .1, size-length (a .wanted) (a .tables .now) (a .store .now) (a .count) (l .i) (a .at) (a .m) q p)
 
 add-i : tie.Need-add-i Inv-loop μ-loop
 add-i c =
-    let p = (c .before .before .before .before .before .before .loop .inv .2) (c .before .before .before .before .before .loop-test .taken) in
-    omega (arith, (c .before .before .before .before .before .before .before .before .before .pre .0))
+    let p = (c .before .before .before .before .before .loop .inv .2) (c .before .before .before .before .loop-test .taken) in
+    omega (arith, (c .before .before .before .before .before .before .before .before .pre .0))
 
 loop-less : tie.Need-loop-less Inv-loop μ-loop
 loop-less c =
-    let p = (c .before .before .before .before .before .before .loop .inv .2) (c .before .before .before .before .before .loop-test .taken) in
-    omega (arith, (c .before .before .before .before .before .before .before .before .before .pre .0))
+    let p = (c .before .before .before .before .before .loop .inv .2) (c .before .before .before .before .loop-test .taken) in
+    omega (arith, (c .before .before .before .before .before .before .before .before .pre .0))
 
 loop-again : tie.Need-loop-again Inv-loop μ-loop
 loop-again c =
-    let l = c .before .before .before .before .before .before .loop in
-    let a = c .before .before .before .before .before .before .before .before .before .args in
-    let q = c .before .before .before .before .before .before .before .before .before .pre in
-    let t = c .before .before .before .before .before .loop-test .taken in
+    let l = c .before .before .before .before .before .loop in
+    let a = c .before .before .before .before .before .before .before .before .args in
+    let q = c .before .before .before .before .before .before .before .before .pre in
+    let t = c .before .before .before .before .loop-test .taken in
     let p = l .inv .2 t in
     let z = c .before .before .before .own-size .ensures in
-    let e : l .rest - (c .before .before .before .own-size .result) ≡ length (joined (a .handle) (a .tables .now) (a .store .now) (a .count) (l .i + 1)) =
-    omega (arith, z, l .inv .1, size-length (a .handle) (a .tables .now) (a .store .now) (a .count) (l .i) (a .at) (a .m) q p) in (
+    let e : l .rest - (c .before .before .before .own-size .result) ≡ length (joined (a .wanted) (a .tables .now) (a .store .now) (a .count) (l .i + 1)) =
+    omega (arith, z, l .inv .1, size-length (a .wanted) (a .tables .now) (a .store .now) (a .count) (l .i) (a .at) (a .m) q p) in (
       l .inv .0
-          ∙ place-passed (a .handle) (a .tables .now) (a .store .now) (a .count) (l .i) (a .at) (a .m) q p _ _ refl z (c .before .begins-in .result)
+          ∙ place-passed (a .wanted) (a .tables .now) (a .store .now) (a .count) (l .i) (a .at) (a .m) q p _ _ refl z (c .before .begins-in .result)
           (c .before .before .least .result) (c .before .begins-in .ensures) (c .if1 .left) (l .rest) (l .inv .1) t (c .before .before .least .ensures),
       e,
-      λ u. still (a .handle) (a .tables .now) (a .store .now) (a .count) (l .i + 1) (q .0) (omega (arith, e, u, q .4)),
+      λ u. still (a .wanted) (a .tables .now) (a .store .now) (a .count) (l .i + 1) (q .0) (omega (arith, e, u, q .4)),
     )
 
 returns-2 : tie.Need-returns-2 Inv-loop μ-loop
@@ -119,7 +110,7 @@ returns-2 c =
     let l = c .before .loop in
     let a = c .before .before .before .before .args in
     let q = c .before .before .before .before .pre in
-    sym (l .inv .0 ∙ none-left (a .handle) (a .tables .now) (a .store .now) (a .count) (l .i) (a .at) (a .m) (l .rest) (q .3) (l .inv .1) (c .loop-test .left))
+    sym (l .inv .0 ∙ none-left (a .wanted) (a .tables .now) (a .store .now) (a .count) (l .i) (a .at) (a .m) (l .rest) (q .3) (l .inv .1) (c .loop-test .left))
 
 pub is-found-spec : {M : Type 1} → statement M
 is-found-spec =
@@ -129,9 +120,6 @@ is-found-spec =
     μ-loop
     joined-size-requires
     loop-holds
-    add-p
-    mul-word
-    element-copy-out-word
     own-size-requires
     sub-least
     sub-least-2

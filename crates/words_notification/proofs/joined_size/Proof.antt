@@ -14,35 +14,26 @@ use Rattle.words_notification.proofs.joined_size.Lts as lts
 use Rattle.words_notification.proofs.own_size.Reads as own-size-reads
 
 abbrev Inv-loop : tie.InvT-loop
-Inv-loop tables count skip handle n₀ i₀ n i =
-    ((s : List ℕ) → heldAt ≤ length s → n + length (joined handle tables s count i) ≡ length (joined handle tables s count skip)) × (n ≤ valueSize * i)
+Inv-loop tables count skip wanted n₀ i₀ n i =
+    ((s : List ℕ) → heldAt ≤ length s → n + length (joined wanted tables s count i) ≡ length (joined wanted tables s count skip)) × (n ≤ valueSize * i)
 
 abbrev μ-loop : tie.MeasureT-loop
-μ-loop tables count skip handle n₀ i₀ n i = count - i
+μ-loop tables count skip wanted n₀ i₀ n i = count - i
 
 loop-holds : tie.Need-loop-holds Inv-loop μ-loop
 loop-holds c = ((λ s h. omega arith), omega arith)
-
-add-p : tie.Need-add-p Inv-loop μ-loop
-add-p c = omega arith
-
-mul-word : tie.Need-mul-word Inv-loop μ-loop
-mul-word c = omega arith
-
-element-copy-out-word : tie.Need-element-copy-out-word Inv-loop μ-loop
-element-copy-out-word c = omega arith
 
 own-size-requires : tie.Need-own-size-requires Inv-loop μ-loop
 own-size-requires c κs = search needs
 
 add-n : tie.Need-add-n Inv-loop μ-loop
 add-n c =
-    let l = c .before .before .before .loop in
-    let a = c .before .before .before .before .args in
-    let q = c .before .before .before .before .pre in
-    let t = c .before .before .loop-test .taken in
+    let l = c .before .before .loop in
+    let a = c .before .before .before .args in
+    let q = c .before .before .before .pre in
+    let t = c .before .loop-test .taken in
     let z = c .own-size .ensures in
-    omega (arith, z, own-small (a .handle) (a .tables .now) [] (a .count) (l .i) (q .0) t (q .1))
+    omega (arith, z, own-small (a .wanted) (a .tables .now) [] (a .count) (l .i) (q .0) t (q .1))
 
 add-i : tie.Need-add-i Inv-loop μ-loop
 add-i c = omega arith
@@ -52,20 +43,20 @@ loop-less c = omega arith
 
 loop-again : tie.Need-loop-again Inv-loop μ-loop
 loop-again c =
-    let l = c .before .before .before .loop in
-    let a = c .before .before .before .before .args in
-    let q = c .before .before .before .before .pre in
-    let t = c .before .before .loop-test .taken in
+    let l = c .before .before .loop in
+    let a = c .before .before .before .args in
+    let q = c .before .before .before .pre in
+    let t = c .before .loop-test .taken in
     let z = c .own-size .ensures in (
-      λ s h. omega (arith, z, l .inv .0 s h, joined-length (a .handle) (a .tables .now) s (a .count) (l .i) (q .0) t (q .1) h),
-      omega (arith, z, l .inv .1, own-small (a .handle) (a .tables .now) [] (a .count) (l .i) (q .0) t (q .1)),
+      λ s h. omega (arith, z, l .inv .0 s h, joined-length (a .wanted) (a .tables .now) s (a .count) (l .i) (q .0) t (q .1) h),
+      omega (arith, z, l .inv .1, own-small (a .wanted) (a .tables .now) [] (a .count) (l .i) (q .0) t (q .1)),
     )
 
 returns : tie.Need-returns Inv-loop μ-loop
 returns c =
     let l = c .before .loop in
     let a = c .before .before .args in
-    λ s h. omega (arith, l .inv .0 s h, ap length (joined-end (a .handle) (a .tables .now) s (a .count) (l .i) (c .before .before .pre .0) (c .loop-test .left)))
+    λ s h. omega (arith, l .inv .0 s h, ap length (joined-end (a .wanted) (a .tables .now) s (a .count) (l .i) (c .before .before .pre .0) (c .loop-test .left)))
 
 pub joined-size-spec : {M : Type 1} → statement M
 joined-size-spec =
@@ -74,9 +65,6 @@ joined-size-spec =
     Inv-loop
     μ-loop
     loop-holds
-    add-p
-    mul-word
-    element-copy-out-word
     own-size-requires
     add-n
     add-i

@@ -24,6 +24,15 @@ mul-word c = search needs
 element-copy-out-word : tie.Need-element-copy-out-word
 element-copy-out-word c = search needs
 
+add-link : tie.Need-add-link
+add-link c = search needs
+
+mul-link : tie.Need-mul-link
+mul-link c = search needs
+
+element-copy-out-link : tie.Need-element-copy-out-link
+element-copy-out-link c = search needs
+
 cast-handle : tie.Need-cast-handle
 cast-handle c = search needs
 
@@ -31,7 +40,7 @@ length-in-requires : tie.Need-length-in-requires
 length-in-requires c κs = search needs
 
 returns : tie.Need-returns
-returns c = word-say (c .before .before .before .args .tables .now) (c .before .before .before .args .i) _ (c .before .before .before .pre) (c .length-in .ensures)
+returns c = word-say (c .before .before .before .before .args .tables .now) (c .before .before .before .before .args .i) _ (c .before .before .before .before .pre) (c .length-in .ensures)
 
 pub notification-at-spec : {M : Type 1} → statement M
 notification-at-spec =
@@ -43,6 +52,9 @@ notification-at-spec =
     element-copy-out-at
     mul-word
     element-copy-out-word
+    add-link
+    mul-link
+    element-copy-out-link
     cast-handle
     length-in-requires
     returns)

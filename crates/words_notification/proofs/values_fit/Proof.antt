@@ -5,7 +5,7 @@ use native.Mathlib.Omega.{arith}
 use lib.ListN.{take, drop}
 use Rattle.notifications.specs.Kept.{valuesFit}
 use Rattle.words.specs.Tables.{notificationsIn}
-use Rattle.words_notification.proofs.NotificationLaws.{fit-on, fit-end}
+use Rattle.words_notification.proofs.NotificationLaws.{value-on, value-end}
 use Rattle.words_notification.proofs.values_fit.Statement.{statement}
 use Rattle.words_notification.proofs.values_fit.Tie as tie
 use Rattle.words_notification.proofs.values_fit.Reads as reads
@@ -38,12 +38,12 @@ loop-less c = omega arith
 loop-again : tie.Need-loop-again Inv-loop μ-loop
 loop-again c =
     let l = c .before .before .loop in
-    (sym (fit-on (c .before .before .before .args .tables .now) _ (l .i) (l .ok) (l .inv .1) (c .before .loop-test .taken)) ∙ l .inv .0, l .inv .1)
+    (sym (value-on (c .before .before .before .args .tables .now) _ (l .i) (l .ok) (l .inv .1) (c .before .loop-test .taken)) ∙ l .inv .0, l .inv .1)
 
 returns : tie.Need-returns Inv-loop μ-loop
 returns c =
     let l = c .before .loop in
-    sym (fit-end (c .before .before .args .tables .now) _ (l .i) (l .ok) (l .inv .1) (c .loop-test .left)) ∙ l .inv .0
+    sym (value-end (c .before .before .args .tables .now) _ (l .i) (l .ok) (l .inv .1) (c .loop-test .left)) ∙ l .inv .0
 
 pub values-fit-spec : {M : Type 1} → statement M
 values-fit-spec =

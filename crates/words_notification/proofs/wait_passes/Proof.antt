@@ -15,7 +15,7 @@ is-any-requires c κs = search needs
 returns : tie.Need-returns
 returns c =
     let a = c .before .before .before .args in
-    passes-empty (a .handle) _ (a .store .now) (a .at) (a .len) _ (c .before .if1 .taken) ((c .is-any .ensures) (a .store .now))
+    passes-empty (a .wanted) _ (a .store .now) (a .at) (a .len) _ (c .before .if1 .taken) ((c .is-any .ensures) (a .store .now))
 
 is-found-requires : tie.Need-is-found-requires
 is-found-requires c κs = search needs
@@ -23,7 +23,7 @@ is-found-requires c κs = search needs
 returns-2 : tie.Need-returns-2
 returns-2 c =
     let a = c .before .before .before .args in
-    passes-some (a .handle) _ (a .store .now) (a .at) (a .len) (joined (a .handle) (a .tables .now) (a .store .now) (a .count) (a .skip)) _
+    passes-some (a .wanted) _ (a .store .now) (a .at) (a .len) (joined (a .wanted) (a .tables .now) (a .store .now) (a .count) (a .skip)) _
     (c .before .before .before .pre .3) (c .before .if1 .left) refl (c .is-found .ensures)
 
 pub wait-passes-spec : {M : Type 1} → statement M

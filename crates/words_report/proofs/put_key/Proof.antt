@@ -21,7 +21,7 @@ element-write-tables : tie.Need-element-write-tables
 element-write-tables c = search needs
 
 returns : tie.Need-returns
-returns c = let l : length (c .before .before .before .args .tables .now) ≡ 1056 = search needs in key-law _ _ _ l (c .before .before .before .pre)
+returns c = let l : length (c .before .before .before .args .tables .now) ≡ 1152 = search needs in key-law _ _ _ l (c .before .before .before .pre)
 
 pub put-key-spec : {M : Type 1} → statement M
 put-key-spec = tie.close (tie.spec size-requires add-p mul-tables element-write-tables returns)

@@ -48,7 +48,7 @@ returns c =
     let args-x = c .before .before .before .before .before .args .x in
     let pre-0 = c .before .before .before .before .before .pre .0 in
     let word-of-ensures = c .word-of .ensures in
-    let l : length args-tables-now ≡ 1056 = search needs in put-law _ _ _ args-x l pre-0 word-of-ensures
+    let l : length args-tables-now ≡ 1152 = search needs in put-law _ _ _ args-x l pre-0 word-of-ensures
 
 pub put-report-spec : {M : Type 1} → statement M
 put-report-spec =

@@ -25,11 +25,20 @@ mul-word-2 c = search needs
 element-copy-out-word-2 : tie.Need-element-copy-out-word-2
 element-copy-out-word-2 c = search needs
 
+add-heard : tie.Need-add-heard
+add-heard c = search needs
+
+mul-heard : tie.Need-mul-heard
+mul-heard c = search needs
+
+element-copy-out-heard : tie.Need-element-copy-out-heard
+element-copy-out-heard c = search needs
+
 result-of-requires : tie.Need-result-of-requires
 result-of-requires c κs = search needs
 
 returns : tie.Need-returns
-returns c = c .result-of .ensures ∙ sym (result-at _ _ (c .before .before .before .pre))
+returns c = c .result-of .ensures ∙ sym (result-at _ _ (c .before .before .before .before .pre))
 
 pub result-at-spec : {M : Type 1} → statement M
 result-at-spec =
@@ -41,5 +50,8 @@ result-at-spec =
     add-word-2
     mul-word-2
     element-copy-out-word-2
+    add-heard
+    mul-heard
+    element-copy-out-heard
     result-of-requires
     returns)

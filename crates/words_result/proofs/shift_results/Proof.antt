@@ -12,8 +12,11 @@ lower-requires c κs = search needs
 lower-requires-2 : tie.Need-lower-requires-2
 lower-requires-2 c κs = search needs
 
+lower-requires-3 : tie.Need-lower-requires-3
+lower-requires-3 c κs = search needs
+
 returns : tie.Need-returns
-returns c = shift-law _ _ _ (c .before .before .lower .ensures) (c .lower2 .ensures)
+returns c = shift-law _ _ _ _ (c .before .before .before .before .lower .ensures) (c .before .before .lower2 .ensures) (c .lower3 .ensures)
 
 pub shift-results-spec : {M : Type 1} → statement M
-shift-results-spec = tie.close (tie.spec lower-requires lower-requires-2 returns)
+shift-results-spec = tie.close (tie.spec lower-requires lower-requires-2 lower-requires-3 returns)

@@ -40,7 +40,7 @@ element-write-tables-3 c = search needs
 
 returns : tie.Need-returns
 returns c =
-    let l : length (c .before .before .before .before .before .args .tables .now) ≡ 1056 = search needs in
+    let l : length (c .before .before .before .before .before .args .tables .now) ≡ 1152 = search needs in
     service-put _ _ _ _ l (c .before .before .before .before .before .pre) (c .word-of .ensures)
 
 pub put-service-spec : {M : Type 1} → statement M

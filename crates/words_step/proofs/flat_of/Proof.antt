@@ -1,7 +1,7 @@
 use mathlib.Core.Path.{refl}
 use native.Mathlib.Omega.{arith}
 use Rattle.words.specs.Words.{stepOf, lenOf}
-use Rattle.words_step.proofs.StepLaws.{apart, aimed}
+use Rattle.words_step.proofs.StepLaws.{apart, aimed, waited}
 use borrow.Author.Needs.{needs}
 use Rattle.words_step.proofs.flat_of.Statement.{statement}
 use Rattle.words_step.proofs.flat_of.Tie as tie
@@ -9,6 +9,7 @@ use Rattle.words_step.proofs.flat_of.Reads as reads
 use Rattle.words_step.proofs.flat_of.Lts as lts
 use Rattle.words_step.proofs.aim_of.Reads as aim-of-reads
 use Rattle.words_step.proofs.plain.Reads as plain-reads
+use Rattle.words_step.proofs.wait_of.Reads as wait-of-reads
 
 enum-known-step : tie.Need-enum-known-step
 enum-known-step c = search needs
@@ -61,32 +62,32 @@ plain-requires-7 c κs = search needs
 enum-known-step-8 : tie.Need-enum-known-step-8
 enum-known-step-8 c = search needs
 
-plain-requires-8 : tie.Need-plain-requires-8
-plain-requires-8 c κs = search needs
+wait-of-requires : tie.Need-wait-of-requires
+wait-of-requires c κs = search needs
 
 enum-known-step-9 : tie.Need-enum-known-step-9
 enum-known-step-9 c = search needs
 
-plain-requires-9 : tie.Need-plain-requires-9
-plain-requires-9 c κs = search needs
+plain-requires-8 : tie.Need-plain-requires-8
+plain-requires-8 c κs = search needs
 
 enum-told-2 : tie.Need-enum-told-2
 enum-told-2 c = search needs
 
-plain-requires-10 : tie.Need-plain-requires-10
-plain-requires-10 c κs = search needs
+plain-requires-9 : tie.Need-plain-requires-9
+plain-requires-9 c κs = search needs
 
 enum-known-step-10 : tie.Need-enum-known-step-10
 enum-known-step-10 c = search needs
 
-plain-requires-11 : tie.Need-plain-requires-11
-plain-requires-11 c κs = search needs
+plain-requires-10 : tie.Need-plain-requires-10
+plain-requires-10 c κs = search needs
 
 enum-known-step-11 : tie.Need-enum-known-step-11
 enum-known-step-11 c = search needs
 
-plain-requires-12 : tie.Need-plain-requires-12
-plain-requires-12 c κs = search needs
+plain-requires-11 : tie.Need-plain-requires-11
+plain-requires-11 c κs = search needs
 
 returns : tie.Need-returns
 unfolding stepOf lenOf
@@ -121,24 +122,23 @@ unfolding stepOf lenOf
 returns-8 c = apart _ _ _ _ _ (c .plain7 .ensures) (c .before .before .step7 .given .1) refl refl
 
 returns-9 : tie.Need-returns-9
-unfolding stepOf lenOf
-returns-9 c = apart _ _ _ _ _ (c .plain8 .ensures) (c .before .before .step8 .given .1) refl (omega arith)
+returns-9 c = waited _ _ _ _ _ _ _ (c .wait-of .ensures) (c .before .before .step8 .given .1) (omega arith)
 
 returns-10 : tie.Need-returns-10
 unfolding stepOf lenOf
-returns-10 c = apart _ _ _ _ _ (c .plain9 .ensures) (c .before .before .step9 .given .1) refl refl
+returns-10 c = apart _ _ _ _ _ (c .plain8 .ensures) (c .before .before .step9 .given .1) refl refl
 
 returns-11 : tie.Need-returns-11
 unfolding stepOf lenOf
-returns-11 c = apart _ _ _ _ _ (c .plain10 .ensures) (c .before .enum-told2 .given .1) refl refl
+returns-11 c = apart _ _ _ _ _ (c .plain9 .ensures) (c .before .enum-told2 .given .1) refl refl
 
 returns-12 : tie.Need-returns-12
 unfolding stepOf lenOf
-returns-12 c = apart _ _ _ _ _ (c .plain11 .ensures) (c .before .before .step10 .given .1) refl refl
+returns-12 c = apart _ _ _ _ _ (c .plain10 .ensures) (c .before .before .step10 .given .1) refl refl
 
 returns-13 : tie.Need-returns-13
 unfolding stepOf lenOf
-returns-13 c = apart _ _ _ _ _ (c .plain12 .ensures) (c .before .before .step11 .given .1) refl refl
+returns-13 c = apart _ _ _ _ _ (c .plain11 .ensures) (c .before .before .step11 .given .1) refl refl
 
 pub flat-of-spec : {M : Type 1} → statement M
 flat-of-spec =
@@ -161,15 +161,15 @@ flat-of-spec =
     enum-known-step-7
     plain-requires-7
     enum-known-step-8
-    plain-requires-8
+    wait-of-requires
     enum-known-step-9
-    plain-requires-9
+    plain-requires-8
     enum-told-2
-    plain-requires-10
+    plain-requires-9
     enum-known-step-10
-    plain-requires-11
+    plain-requires-10
     enum-known-step-11
-    plain-requires-12
+    plain-requires-11
     returns
     returns-2
     returns-3

@@ -5,10 +5,14 @@ use Rattle.words_step.proofs.step_of.Statement.{statement}
 use Rattle.words_step.proofs.step_of.Tie as tie
 use Rattle.words_step.proofs.step_of.Reads as reads
 use Rattle.words_step.proofs.step_of.Lts as lts
+use Rattle.words_step.proofs.age_of.Reads as age-of-reads
 use Rattle.words_step.proofs.target_of.Reads as target-of-reads
 
 target-of-requires : tie.Need-target-of-requires
 target-of-requires c κs = search needs
+
+age-of-requires : tie.Need-age-of-requires
+age-of-requires c κs = search needs
 
 returns : tie.Need-returns
 unfolding stepOf
@@ -44,7 +48,7 @@ returns-8 c = rw (c .match .keys8)
 
 returns-9 : tie.Need-returns-9
 unfolding stepOf
-returns-9 c = rw (c .match .keys9)
+returns-9 c = rw (c .before .match .keys9, c .age-of .ensures)
 
 returns-10 : tie.Need-returns-10
 unfolding stepOf
@@ -82,6 +86,7 @@ step-of-spec =
     tie.close
     (tie.spec
     target-of-requires
+    age-of-requires
     returns
     returns-2
     returns-3

@@ -6,7 +6,7 @@ use Rattle.tool_bench.proofs.begin.lay.Statement.{statement}
 use Rattle.tool_bench.proofs.begin.lay.Tie as tie
 
 abbrev Inv-loop : tie.InvT-loop
-Inv-loop tables₀ at n first by word₀ i₀ tables word i = (i ≤ n) × (at + n ≤ 1056)
+Inv-loop tables₀ at n first by word₀ i₀ tables word i = (i ≤ n) × (at + n ≤ 1152)
 
 abbrev μ-loop : tie.MeasureT-loop
 μ-loop tables₀ at n first by word₀ i₀ tables word i = n - i

@@ -7,10 +7,10 @@ use Rattle.tool_player.proofs.fresh.clear.Reads as reads
 use Rattle.tool_player.proofs.fresh.clear.Lts as lts
 
 abbrev Inv-loop : tie.InvT-loop
-Inv-loop tables₀ i₀ tables i = i ≤ 1056
+Inv-loop tables₀ i₀ tables i = i ≤ 1152
 
 abbrev μ-loop : tie.MeasureT-loop
-μ-loop tables₀ i₀ tables i = 1056 - i
+μ-loop tables₀ i₀ tables i = 1152 - i
 
 loop-holds : tie.Need-loop-holds Inv-loop μ-loop
 loop-holds c = omega arith

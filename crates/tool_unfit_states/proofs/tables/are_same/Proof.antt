@@ -5,10 +5,10 @@ use Rattle.tool_unfit_states.proofs.tables.are_same.Statement.{statemen
 use Rattle.tool_unfit_states.proofs.tables.are_same.Tie as tie
 
 abbrev Inv-loop : tie.InvT-loop
-Inv-loop tables before same₀ i₀ same i = i ≤ 1056
+Inv-loop tables before same₀ i₀ same i = i ≤ 1152
 
 abbrev μ-loop : tie.MeasureT-loop
-μ-loop tables before same₀ i₀ same i = 1056 - i
+μ-loop tables before same₀ i₀ same i = 1152 - i
 
 loop-holds : tie.Need-loop-holds Inv-loop μ-loop
 loop-holds c = search needs

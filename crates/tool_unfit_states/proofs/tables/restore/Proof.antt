@@ -5,10 +5,10 @@ use Rattle.tool_unfit_states.proofs.tables.restore.Statement.{statement
 use Rattle.tool_unfit_states.proofs.tables.restore.Tie as tie
 
 abbrev Inv-loop : tie.InvT-loop
-Inv-loop tables₀ before i₀ tables i = i ≤ 1056
+Inv-loop tables₀ before i₀ tables i = i ≤ 1152
 
 abbrev μ-loop : tie.MeasureT-loop
-μ-loop tables₀ before i₀ tables i = 1056 - i
+μ-loop tables₀ before i₀ tables i = 1152 - i
 
 loop-holds : tie.Need-loop-holds Inv-loop μ-loop
 loop-holds c = search needs

@@ -1,0 +1,10 @@
+pub mod Counting
+pub mod Leads
+pub mod Starts
+pub mod Channels
+pub mod Ears
+pub mod Line
+pub mod Turns
+pub mod Trails
+pub mod Calls
+pub mod Sequences
