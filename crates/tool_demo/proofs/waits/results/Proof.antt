@@ -1,8 +1,8 @@
 -- Safe, and ends: the results that are left fall by one.
 use Prim.Native.Nat.{_-_}
 use borrow.Author.Needs.{needs}
-use Rattle.tool_night.proofs.waits.results.Statement.{statement}
-use Rattle.tool_night.proofs.waits.results.Tie as tie
+use Rattle.tool_demo.proofs.waits.results.Statement.{statement}
+use Rattle.tool_demo.proofs.waits.results.Tie as tie
 
 abbrev Inv-loop : tie.InvT-loop
 Inv-loop s store from to index₀ index = Unit {0}

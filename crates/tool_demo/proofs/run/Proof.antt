@@ -3,8 +3,8 @@ use lib.ListN.{length}
 use mathlib.Core.Path.{_≡_}
 use native.Mathlib.Omega.{arith}
 use borrow.Author.Needs.{needs}
-use Rattle.tool_night.proofs.run.Statement.{statement}
-use Rattle.tool_night.proofs.run.Tie as tie
+use Rattle.tool_demo.proofs.run.Statement.{statement}
+use Rattle.tool_demo.proofs.run.Tie as tie
 
 abbrev Inv-loop : tie.InvT-loop
 Inv-loop form part done store₀ out₀ n₀ left₀ store out n left = (length store ≡ length store₀) × (length out ≡ length out₀)

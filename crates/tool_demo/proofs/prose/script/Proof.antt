@@ -1,8 +1,8 @@
 -- Safe, and ends: the places that are left fall by one.
 use Prim.Native.Nat.{_≤_, _-_}
 use borrow.Author.Needs.{needs}
-use Rattle.tool_night.proofs.prose.script.Statement.{statement}
-use Rattle.tool_night.proofs.prose.script.Tie as tie
+use Rattle.tool_demo.proofs.prose.script.Statement.{statement}
+use Rattle.tool_demo.proofs.prose.script.Tie as tie
 
 abbrev Inv-loop : tie.InvT-loop
 Inv-loop from all count i₀ t8 t9 t10 i = i ≤ 64

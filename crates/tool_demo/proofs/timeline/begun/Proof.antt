@@ -1,8 +1,8 @@
 -- Safe, and ends: the steps that are left fall by one.
 use Prim.Native.Nat.{_-_}
 use borrow.Author.Needs.{needs}
-use Rattle.tool_night.proofs.timeline.begun.Statement.{statement}
-use Rattle.tool_night.proofs.timeline.begun.Tie as tie
+use Rattle.tool_demo.proofs.timeline.begun.Statement.{statement}
+use Rattle.tool_demo.proofs.timeline.begun.Tie as tie
 
 abbrev Inv-loop : tie.InvT-loop
 Inv-loop part first at done store from to index₀ index = Unit {0}
