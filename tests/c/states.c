@@ -129,55 +129,120 @@ static bool carries(uint64_t kind) {
     return kind == BARLEYROPE_STEP_WRITE || kind == BARLEYROPE_STEP_WAIT_NOTIFICATION;
 }
 
-static bool step_fits(uint64_t kind, uint64_t len, uint64_t mtu) {
-    return (!carries(kind) || len <= 244) && (kind != BARLEYROPE_STEP_EXCHANGE_MTU || mtu <= 247);
+static bool length_fits(uint64_t kind, uint64_t len) {
+    return !carries(kind) || len <= 244;
 }
 
-static bool counts_fit(void) {
-    return CORE[WAITING] <= 64 && CORE[RESULTS] <= 64 && CORE[SERVICES] <= 32 && CORE[CHARACTERISTICS] <= 64 &&
-           CORE[NOTIFICATIONS] <= 32 && CORE[REPORTS] <= 64 && CORE[KEYS] <= 128;
+static bool mtu_fits(uint64_t kind, uint64_t mtu) {
+    return kind != BARLEYROPE_STEP_EXCHANGE_MTU || mtu <= 247;
 }
 
-static bool tables_fit(void) {
+/* Each clause, as 01 says it, in order; a state that breaks one of them alone shows that every call asks for it. */
+enum clause {
+    WAITING_SIZE, RESULTS_SIZE, SERVICES_SIZE, CHARACTERISTICS_SIZE, NOTIFICATIONS_SIZE, REPORTS_SIZE, KEYS_SIZE, VALUE_LENGTHS, MTUS_NAMED,
+    RESULT_LENGTHS, NOTIFICATION_LENGTHS, NOTIFICATION_LINKS, HANDLES_RISE, ONE_RUNS, RUNNING_LENGTH, RUNNING_MTU, PHASES, DEADLINES, HELD_SIZE,
+    LINK_MTU, PENDING_OPCODE, PENDING_STEP, KEPT_NOTIFIED, MOST_NOTIFIED, WAITS_FROM, MOST_REFUSED, INDEXES, MOST_LINKS, CLAUSES
+};
+
+static const char *const clause_says[CLAUSES] = {
+    "at most 64 steps wait", "at most 64 results", "at most 32 services", "at most 64 characteristics", "at most 32 notifications",
+    "at most 64 reports", "at most 128 asked advertisers", "a waiting step's value has at most 244 bytes", "a waiting step names an MTU of at most 247",
+    "a result's value has at most 246 bytes", "a notification's value has at most 244 bytes", "a notification's link is counted",
+    "characteristics rise", "no step waits while none runs", "the running step's value has at most 244 bytes",
+    "the running step names an MTU of at most 247", "a phase is 0, 1 or 2", "a deadline is at most 2^63", "at most 251 bytes of a frame are held",
+    "the link's MTU is 23 to 247", "what is awaited is one of our requests", "an ATT step awaits it", "no more kept than notified",
+    "notified at most 2^62", "waits begin within what was notified", "refused steps at most 2^62 + 64", "indices stay below 2^32",
+    "at most 2^62 links"};
+
+static bool broken[CLAUSES];
+static unsigned long alone[CLAUSES]; /* states that break it and no other */
+
+static void asks(enum clause which, bool holds) {
+    broken[which] = broken[which] || !holds;
+}
+
+/* How many places to look at: a count may say more than there are. */
+static size_t within(uint64_t count, size_t places) {
+    return count < places ? (size_t)count : places;
+}
+
+static void judge_counts(void) {
+    asks(WAITING_SIZE, CORE[WAITING] <= 64);
+    asks(RESULTS_SIZE, CORE[RESULTS] <= 64);
+    asks(SERVICES_SIZE, CORE[SERVICES] <= 32);
+    asks(CHARACTERISTICS_SIZE, CORE[CHARACTERISTICS] <= 64);
+    asks(NOTIFICATIONS_SIZE, CORE[NOTIFICATIONS] <= 32);
+    asks(REPORTS_SIZE, CORE[REPORTS] <= 64);
+    asks(KEYS_SIZE, CORE[KEYS] <= 128);
+}
+
+static void judge_step(enum clause length, enum clause names, uint64_t kind, uint64_t len, uint64_t mtu) {
+    asks(length, length_fits(kind, len));
+    asks(names, mtu_fits(kind, mtu));
+}
+
+static void judge_tables(void) {
     size_t i;
-    for (i = 0; i < CORE[WAITING]; i++)
-        if (!step_fits(TABLES[i] % 256, (TABLES[i] >> 48) % 256, TABLES[i] >> 48))
-            return false;
-    for (i = 0; i < CORE[RESULTS]; i++)
-        if (TABLES[T_RESULT + i] >> 56 > 246)
-            return false;
-    for (i = 0; i < CORE[NOTIFICATIONS]; i++)
-        if (TABLES[T_NOTIFICATION + i] >> 56 > 244 || TABLES[T_LINK + i] > CORE[LINKS])
-            return false;
-    for (i = 1; i < CORE[CHARACTERISTICS]; i++)
-        if (TABLES[T_CHARACTERISTIC + i - 1] >> 48 >= TABLES[T_CHARACTERISTIC + i] >> 48)
-            return false;
-    return true;
+    for (i = 0; i < within(CORE[WAITING], 64); i++)
+        judge_step(VALUE_LENGTHS, MTUS_NAMED, TABLES[i] % 256, (TABLES[i] >> 48) % 256, TABLES[i] >> 48);
+    for (i = 0; i < within(CORE[RESULTS], 64); i++)
+        asks(RESULT_LENGTHS, TABLES[T_RESULT + i] >> 56 <= 246);
+    for (i = 0; i < within(CORE[NOTIFICATIONS], 32); i++) {
+        asks(NOTIFICATION_LENGTHS, TABLES[T_NOTIFICATION + i] >> 56 <= 244);
+        asks(NOTIFICATION_LINKS, TABLES[T_LINK + i] <= CORE[LINKS]);
+    }
+    for (i = 1; i < within(CORE[CHARACTERISTICS], 64); i++)
+        asks(HANDLES_RISE, TABLES[T_CHARACTERISTIC + i - 1] >> 48 < TABLES[T_CHARACTERISTIC + i] >> 48);
 }
 
-static bool running_fits(void) {
+static void judge_running(void) {
+    asks(ONE_RUNS, is_set(ACTIVE) || CORE[WAITING] == 0);
     if (!is_set(ACTIVE))
-        return CORE[WAITING] == 0;
-    return step_fits(CORE[KIND] % 256, CORE[LEN] % 256, CORE[MTU_NAMED] % 65536) && CORE[PHASE] % 256 <= 2 &&
-           (!is_set(DATED) || CORE[DEADLINE] <= EDGE63);
+        return;
+    judge_step(RUNNING_LENGTH, RUNNING_MTU, CORE[KIND] % 256, CORE[LEN] % 256, CORE[MTU_NAMED] % 65536);
+    asks(PHASES, CORE[PHASE] % 256 <= 2);
+    asks(DEADLINES, !is_set(DATED) || CORE[DEADLINE] <= EDGE63);
 }
 
-static bool link_fits(void) {
+static bool is_request(uint64_t pending) {
+    return pending == 0x02 || pending == 0x04 || pending == 0x08 || pending == 0x0A || pending == 0x10 || pending == 0x12;
+}
+
+static void judge_link(void) {
     uint64_t pending = CORE[PENDING] % 256, mtu = CORE[MTU] % 65536, kind = CORE[KIND] % 256;
     if (!is_set(PRESENT))
-        return true;
-    if (CORE[HELD] > 251 || mtu < 23 || mtu > 247)
-        return false;
-    if (pending == 0)
-        return true;
-    return (pending == 0x02 || pending == 0x04 || pending == 0x08 || pending == 0x0A || pending == 0x10 || pending == 0x12) &&
-           is_set(ACTIVE) && BARLEYROPE_STEP_EXCHANGE_MTU <= kind && kind <= BARLEYROPE_STEP_READ;
+        return;
+    asks(HELD_SIZE, CORE[HELD] <= 251);
+    asks(LINK_MTU, mtu >= 23 && mtu <= 247);
+    asks(PENDING_OPCODE, pending == 0 || is_request(pending));
+    asks(PENDING_STEP, pending == 0 || (is_set(ACTIVE) && BARLEYROPE_STEP_EXCHANGE_MTU <= kind && kind <= BARLEYROPE_STEP_READ));
+}
+
+static void judge_counters(void) {
+    asks(KEPT_NOTIFIED, CORE[NOTIFICATIONS] <= CORE[NOTIFIED]);
+    asks(MOST_NOTIFIED, CORE[NOTIFIED] <= EDGE62);
+    asks(WAITS_FROM, CORE[WAIT_FROM] <= CORE[NOTIFIED]);
+    asks(MOST_REFUSED, CORE[REFUSED_STEPS] <= EDGE62 + 64);
+    asks(INDEXES, CORE[NEXT_INDEX] % 4294967296 + within(CORE[WAITING], 65) <= 4294967295);
+    asks(MOST_LINKS, CORE[LINKS] <= EDGE62);
+}
+
+/* How many clauses the state breaks. */
+static size_t breaks(void) {
+    size_t i, n = 0;
+    memset(broken, 0, sizeof broken);
+    judge_counts();
+    judge_tables();
+    judge_running();
+    judge_link();
+    judge_counters();
+    for (i = 0; i < CLAUSES; i++)
+        n += broken[i];
+    return n;
 }
 
 static bool is_fit(void) {
-    return counts_fit() && tables_fit() && running_fits() && link_fits() && CORE[NOTIFICATIONS] <= CORE[NOTIFIED] &&
-           CORE[NOTIFIED] <= EDGE62 && CORE[WAIT_FROM] <= CORE[NOTIFIED] && CORE[REFUSED_STEPS] <= EDGE62 + 64 &&
-           CORE[NEXT_INDEX] % 4294967296 + CORE[WAITING] <= 4294967295 && CORE[LINKS] <= EDGE62;
+    return breaks() == 0;
 }
 
 /* ---- a call's arguments, and the refusal that 01 gives them -------------------------------------------------------------------- */
@@ -328,7 +393,7 @@ static int batch_refusal(const barleyrope_step *steps, size_t lent, size_t count
         return 4;
     for (i = 0; i < count && i < lent; i++) {
         uint64_t kind = steps[i].kind % 256, len = steps[i].value_len;
-        if (!step_fits(kind, len, steps[i].mtu % 65536))
+        if (!length_fits(kind, len) || !mtu_fits(kind, steps[i].mtu % 65536))
             return 4;
         if (carries(kind) && (len > values || steps[i].value_at > values - len))
             return 4;
@@ -698,10 +763,33 @@ static void rename_one(void) {
         TABLES[T_LINK + below(32)] = CORE[LINKS] + 1 - below(3);
 }
 
+/* Bits 48 to 55 of a step's word: the length of its value, or the lower half of the MTU that it names. */
+static uint64_t with_size(uint64_t word, uint64_t size) {
+    return (word & ~(UINT64_C(255) << 48)) | size << 48;
+}
+
+/* What damage to one word seldom does: a value about as long as one may be; characteristics that rise in all places, or one too many. */
+static void aim(void) {
+    size_t i;
+    switch (below(3)) {
+    case 0: CORE[KIND] = BARLEYROPE_STEP_WRITE, CORE[LEN] = 240 + below(16); break;
+    case 1:
+        i = below((size_t)CORE[WAITING] + 1) % 64;
+        TABLES[i] = with_size(TABLES[i], 240 + below(16));
+        break;
+    default:
+        for (i = 0; i < 64; i++)
+            TABLES[T_CHARACTERISTIC + i] = (TABLES[T_CHARACTERISTIC + i] & (UINT64_MAX >> 16)) | (uint64_t)(3 + 4 * i) << 48;
+        CORE[CHARACTERISTICS] = 64 + below(2);
+    }
+}
+
 static void damage_one_word(void) {
     size_t i = below(2 * BARLEYROPE_TABLE_WORDS);
     if (one_in(8))
         rename_one();
+    else if (one_in(16))
+        aim();
     else if (i < BARLEYROPE_TABLE_WORDS)
         TABLES[i] = damaged(TABLES[i]);
     else
@@ -717,7 +805,7 @@ static void random_words(bool small) {
 }
 
 static void one_state(void) {
-    size_t i = below(GOOD);
+    size_t i = below(GOOD), n;
     load(i);
     if (one_in(4)) {
         random_words(one_in(2));
@@ -725,7 +813,10 @@ static void one_state(void) {
     } else {
         damage_one_word();
     }
-    fit = is_fit();
+    n = breaks();
+    fit = n == 0;
+    for (i = 0; i < CLAUSES && n == 1; i++)
+        alone[i] += broken[i];
     note();
     call_each();
 }
@@ -783,6 +874,14 @@ int main(int argc, char **argv) {
            by_refusal[0]);
     for (i = 1; i < 9; i++)
         printf("%s by %u: %lu", i == 1 ? "" : ",", (unsigned)i, by_refusal[i]);
-    printf("; %lu notifications told that a wait passed on; %lu failures\n", passed_on, failures);
+    printf("; %lu notifications told that a wait passed on\n", passed_on);
+    puts("states that break one clause of fit and no other, each refused by 1 by every export:");
+    calling = "no call";
+    for (i = 0; i < CLAUSES; i++) {
+        printf("%8lu  %s\n", alone[i], clause_says[i]);
+        if (count >= 1000000)
+            EXPECT(alone[i] > 0);
+    }
+    printf("%lu failures\n", failures);
     return failures == 0 ? 0 : 1;
 }
