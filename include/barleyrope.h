@@ -45,17 +45,17 @@ extern "C" {
 #endif
 
 #define BARLEYROPE_VERSION_MAJOR 1
-#define BARLEYROPE_VERSION_MINOR 1
-#define BARLEYROPE_VERSION "1.1"
+#define BARLEYROPE_VERSION_MINOR 2
+#define BARLEYROPE_VERSION "1.2"
 
 /* The store has exactly this size; the output has at least this one. */
 #define BARLEYROPE_STORE_SIZE 43631
 #define BARLEYROPE_OUTPUT_SIZE 16315
 
-#define BARLEYROPE_CORE_WORDS 35
+#define BARLEYROPE_CORE_WORDS 37
 #define BARLEYROPE_TABLE_WORDS 1152
 
-/* 9,496 bytes. All zero is a fresh state: nothing queued, kept, heard or linked. */
+/* 9,512 bytes. All zero is a fresh state: nothing queued, kept, heard or linked, no option chosen. */
 typedef struct barleyrope_state {
     uint64_t core[BARLEYROPE_CORE_WORDS];
     uint64_t tables[BARLEYROPE_TABLE_WORDS];
@@ -65,14 +65,16 @@ typedef struct barleyrope_state {
 
 enum {
     BARLEYROPE_ACCEPTED = 0,
-    BARLEYROPE_UNFIT = 1,        /* the state is not one that calls leave */
+    BARLEYROPE_UNFIT = 1,        /* the state is not one that calls leave; of a stream: over 1,024 bytes held */
     BARLEYROPE_WRONG_SIZE = 2,   /* the store is not of its size, or the output is too short */
     BARLEYROPE_LATE_TIME = 3,    /* the time is above 2^62 microseconds */
     BARLEYROPE_BAD_BATCH = 4,    /* over 64 steps; an MTU over 247; a value over 244 bytes or outside values */
     BARLEYROPE_COUNTER_FULL = 5, /* no more steps, notifications or links can be counted: begin a new state */
     BARLEYROPE_LONG_DATA = 6,    /* advertising or scan response data over 31 bytes */
     BARLEYROPE_LONG_FRAME = 7,   /* a frame over 251 bytes; what was held of it is dropped */
-    BARLEYROPE_KEYS_FULL = 8     /* a Scan has asked 128 advertisers already */
+    BARLEYROPE_KEYS_FULL = 8,    /* a Scan has asked 128 advertisers already */
+    BARLEYROPE_BAD_INDICATOR = 9, /* a byte from the UART begins no packet: the stream is lost until a reset */
+    BARLEYROPE_LONG_PACKET = 10   /* a packet over 1,024 bytes, or an event over 255 parameter bytes */
 };
 
 /* One line in English for a log; never NULL. */
@@ -81,13 +83,15 @@ static inline const char *barleyrope_refusal_text(int refusal)
     switch (refusal) {
     case BARLEYROPE_ACCEPTED: return "accepted";
     case BARLEYROPE_UNFIT: return "the state is not fit: it was not left by a call";
-    case BARLEYROPE_WRONG_SIZE: return "the store is not 43631 bytes, or the output is under 16315";
+    case BARLEYROPE_WRONG_SIZE: return "the store is not 43631 bytes, or the output is too short";
     case BARLEYROPE_LATE_TIME: return "the time is above 2^62 microseconds";
     case BARLEYROPE_BAD_BATCH: return "over 64 steps, an MTU over 247, or a value too long or outside values";
     case BARLEYROPE_COUNTER_FULL: return "no more steps, notifications or links can be counted";
     case BARLEYROPE_LONG_DATA: return "advertising or scan response data over 31 bytes";
     case BARLEYROPE_LONG_FRAME: return "a frame over 251 bytes; the bytes held of it are dropped";
     case BARLEYROPE_KEYS_FULL: return "the running scan has asked 128 advertisers already";
+    case BARLEYROPE_BAD_INDICATOR: return "no packet begins with this byte; the stream is lost until a reset";
+    case BARLEYROPE_LONG_PACKET: return "a packet over 1024 bytes, or an event over 255 parameter bytes";
     default: return "no such refusal";
     }
 }
@@ -102,7 +106,8 @@ enum {
     BARLEYROPE_ATT_ERROR = 4, /* the head's error code stands beside it */
     BARLEYROPE_TOO_LONG = 5,
     BARLEYROPE_DISCONNECTED = 6,
-    BARLEYROPE_TABLE_FULL = 7
+    BARLEYROPE_TABLE_FULL = 7,
+    BARLEYROPE_BEARER_CLOSED = 8 /* in strict mode: an earlier request on this link got no answer */
 };
 
 static inline const char *barleyrope_status_text(int status)
@@ -116,6 +121,7 @@ static inline const char *barleyrope_status_text(int status)
     case BARLEYROPE_TOO_LONG: return "the value is longer than the link's MTU allows";
     case BARLEYROPE_DISCONNECTED: return "the link was lost";
     case BARLEYROPE_TABLE_FULL: return "the head has more services or characteristics than there are places";
+    case BARLEYROPE_BEARER_CLOSED: return "an earlier request on this link got no answer: connect again";
     default: return "no such status";
     }
 }
@@ -580,6 +586,21 @@ static inline barleyrope_step barleyrope_capture_secrets(bool secrets)
     return barleyrope_step_of(BARLEYROPE_STEP_CAPTURE_SECRETS, secrets, 0, barleyrope_uuid_of(0, 0));
 }
 
+/* ---- options: chosen when a state is made ---------------------------------------------------- */
+
+/*
+ * Or them together for barleyrope_fresh_with. A bit without a name counts for nothing.
+ *
+ * BARLEYROPE_STRICT: once a step has ended TIMEOUT while its ATT request was still unanswered, nothing
+ * more is asked on that link (Core Vol 3 Part F 3.3.3): each ExchangeMtu, discovery, Subscribe, Write
+ * and Read ends BEARER_CLOSED at once, until the next barleyrope_on_connected. So a late answer is
+ * never taken for another step's. Waits run, and what the head asks is answered. Without it the next
+ * step asks at once, and may take the late answer of the one before.
+ */
+enum {
+    BARLEYROPE_STRICT = 1
+};
+
 /* ---- the exports ----------------------------------------------------------------------------- */
 
 /*
@@ -588,60 +609,74 @@ static inline barleyrope_step barleyrope_capture_secrets(bool secrets)
  * refusal, and words that an answer does not use are 0.
  */
 
+/* Writes all of both. */
+void barleyrope_fresh_with_words(uint64_t core[37], uint64_t tables[1152], uint64_t options);
+
 /* told: refusal, frames, bytes, request, interval, latency, timeout, reason.
  * steps_len is in words, BARLEYROPE_STEP_WORDS times count. */
-void barleyrope_push_steps_words(uint64_t core[35], uint64_t tables[1152], uint8_t *store, size_t store_len,
+void barleyrope_push_steps_words(uint64_t core[37], uint64_t tables[1152], uint8_t *store, size_t store_len,
                                  uint8_t *out, size_t out_len, uint64_t at, const uint64_t *steps,
                                  size_t steps_len, size_t count, const uint8_t *values, size_t values_len,
                                  uint64_t told[8]);
-void barleyrope_on_timer_words(uint64_t core[35], uint64_t tables[1152], uint8_t *store, size_t store_len,
+void barleyrope_on_timer_words(uint64_t core[37], uint64_t tables[1152], uint8_t *store, size_t store_len,
                                uint8_t *out, size_t out_len, uint64_t at, uint64_t told[8]);
-void barleyrope_on_connected_words(uint64_t core[35], uint64_t tables[1152], uint8_t *store, size_t store_len,
+void barleyrope_on_connected_words(uint64_t core[37], uint64_t tables[1152], uint8_t *store, size_t store_len,
                                    uint8_t *out, size_t out_len, uint16_t handle, uint64_t at,
                                    uint64_t told[8]);
-void barleyrope_on_fragment_words(uint64_t core[35], uint64_t tables[1152], uint8_t *store, size_t store_len,
+void barleyrope_on_fragment_words(uint64_t core[37], uint64_t tables[1152], uint8_t *store, size_t store_len,
                                   uint8_t *out, size_t out_len, uint64_t at, bool start,
                                   const uint8_t *fragment, size_t fragment_len, uint64_t told[8]);
 
 /* told: refusal. */
-void barleyrope_on_disconnected_words(uint64_t core[35], uint64_t tables[1152], uint8_t *store,
+void barleyrope_on_disconnected_words(uint64_t core[37], uint64_t tables[1152], uint8_t *store,
                                       size_t store_len, uint64_t at, uint64_t told[8]);
-void barleyrope_on_scan_response_words(uint64_t core[35], uint64_t tables[1152], uint8_t *store,
+void barleyrope_on_scan_response_words(uint64_t core[37], uint64_t tables[1152], uint8_t *store,
                                        size_t store_len, uint64_t at, uint64_t address, const uint8_t *data,
                                        size_t data_len, uint64_t told[8]);
 
 /* told: refusal, action, interval, latency, timeout. */
-void barleyrope_on_advertising_words(uint64_t core[35], uint64_t tables[1152], uint8_t *store,
+void barleyrope_on_advertising_words(uint64_t core[37], uint64_t tables[1152], uint8_t *store,
                                      size_t store_len, uint64_t at, uint8_t channel, uint8_t pdu,
                                      uint64_t address, const uint8_t *data, size_t data_len, bool to_central,
                                      uint64_t told[8]);
 
 /* told: refusal, 1 if there is one, the deadline; or the handle. */
-void barleyrope_timer_us_words(const uint64_t core[35], const uint64_t tables[1152], const uint8_t *store,
+void barleyrope_timer_us_words(const uint64_t core[37], const uint64_t tables[1152], const uint8_t *store,
                                size_t store_len, uint64_t told[8]);
-void barleyrope_connected_handle_words(const uint64_t core[35], const uint64_t tables[1152],
+void barleyrope_connected_handle_words(const uint64_t core[37], const uint64_t tables[1152],
                                        const uint8_t *store, size_t store_len, uint64_t told[8]);
 
 /* told: refusal, 1 if it is kept, time, status, ATT error code, place and length in the store. */
-void barleyrope_result_words(const uint64_t core[35], const uint64_t tables[1152], const uint8_t *store,
+void barleyrope_result_words(const uint64_t core[37], const uint64_t tables[1152], const uint8_t *store,
                              size_t store_len, uint32_t index, uint64_t told[8]);
 
 /* told: refusal, 1 if there is one, time, link, handle, 1 for an indication, place and length in the store. */
-void barleyrope_passed_on_words(const uint64_t core[35], const uint64_t tables[1152], const uint8_t *store,
+void barleyrope_passed_on_words(const uint64_t core[37], const uint64_t tables[1152], const uint8_t *store,
                                 size_t store_len, uint32_t index, uint64_t told[8]);
 
 /* told: refusal, 1 if it is kept, time, channel, PDU type, address, place and length of the data, 1 if
  * there is a scan response, its place and length. */
-void barleyrope_report_words(const uint64_t core[35], const uint64_t tables[1152], const uint8_t *store,
+void barleyrope_report_words(const uint64_t core[37], const uint64_t tables[1152], const uint8_t *store,
                              size_t store_len, size_t i, uint64_t told[12]);
 
 /* told: refusal, 1 if they are there, place and length in the store. */
-void barleyrope_report_data_words(const uint64_t core[35], const uint64_t tables[1152], const uint8_t *store,
+void barleyrope_report_data_words(const uint64_t core[37], const uint64_t tables[1152], const uint8_t *store,
                                   size_t store_len, size_t i, uint64_t told[8]);
-void barleyrope_report_response_words(const uint64_t core[35], const uint64_t tables[1152],
+void barleyrope_report_response_words(const uint64_t core[37], const uint64_t tables[1152],
                                       const uint8_t *store, size_t store_len, size_t i, uint64_t told[8]);
-void barleyrope_report_body_words(const uint64_t core[35], const uint64_t tables[1152], const uint8_t *store,
+void barleyrope_report_body_words(const uint64_t core[37], const uint64_t tables[1152], const uint8_t *store,
                                   size_t store_len, size_t i, uint64_t low, uint64_t high, uint64_t told[8]);
+void barleyrope_report_presence_words(const uint64_t core[37], const uint64_t tables[1152],
+                                      const uint8_t *store, size_t store_len, size_t i, uint64_t low,
+                                      uint64_t high, uint64_t told[8]);
+
+/* ---- a fresh state --------------------------------------------------------------------------- */
+
+/* A fresh state with these options, whatever it was; with options 0 it is all zero. The store stays. */
+static inline void barleyrope_fresh_with(barleyrope_state *state, uint64_t options)
+{
+    barleyrope_fresh_with_words(state->core, state->tables, options);
+}
 
 /* ---- calls: something happened --------------------------------------------------------------- */
 
@@ -1123,6 +1158,54 @@ static inline barleyrope_part barleyrope_find_in_report(const barleyrope_state *
     return barleyrope_part_of(store, told);
 }
 
+/*
+ * What an advertiser tells of a service, by its advertising data and its scan response.
+ *
+ * UNKNOWN IS NOT FALSE. A head whose list is incomplete, or whose data is cut, may offer the service
+ * all the same. So compare with these names: `if (presence)` takes 'unknown' for yes, and
+ * `presence == BARLEYROPE_LISTED`, used as 'ours or not ours', takes it for no. What to do on unknown:
+ * ask for a scan response, or connect and discover the services. A Connect step to a service goes on
+ * listed alone.
+ */
+enum {
+    BARLEYROPE_ABSENT = 0, /* not listed, though all lists are complete and all data was read */
+    BARLEYROPE_LISTED = 1,
+    BARLEYROPE_UNKNOWN = 2 /* not listed, and a list is incomplete (types 02, 04, 06) or a structure is cut off */
+};
+
+/* One line in English for a log; never NULL. */
+static inline const char *barleyrope_presence_text(int presence)
+{
+    switch (presence) {
+    case BARLEYROPE_ABSENT: return "absent: the advertiser does not list the service";
+    case BARLEYROPE_LISTED: return "listed: the advertiser lists the service";
+    case BARLEYROPE_UNKNOWN: return "unknown: a list is incomplete or the data is cut, so the service may be there";
+    default: return "no such answer";
+    }
+}
+
+/* What a report tells of a service. */
+typedef struct barleyrope_presence {
+    int refusal;
+    bool is_kept; /* false: there are not so many reports; presence means nothing then */
+    int presence; /* BARLEYROPE_ABSENT, BARLEYROPE_LISTED or BARLEYROPE_UNKNOWN */
+} barleyrope_presence;
+
+/* Whether report i lists a service, does not, or cannot tell. */
+static inline barleyrope_presence barleyrope_presence_in_report(const barleyrope_state *state,
+                                                                const uint8_t *store, size_t store_size,
+                                                                size_t i, barleyrope_uuid service)
+{
+    uint64_t told[8];
+    barleyrope_presence answer;
+    barleyrope_report_presence_words(state->core, state->tables, store, store_size, i, service.low,
+                                     service.high, told);
+    answer.refusal = (int)told[0];
+    answer.is_kept = told[1] == 1;
+    answer.presence = (int)told[2];
+    return answer;
+}
+
 /* ---- with no state: advertising data, connection parameters ---------------------------------- */
 
 /*
@@ -1140,7 +1223,8 @@ static inline barleyrope_part barleyrope_find_in_report(const barleyrope_state *
  *   low    bits 0 to 63 of the UUID
  *   high   bits 64 to 127 of the UUID
  *
- * Returns true if some structure lists the UUID.
+ * Returns true if some structure lists the UUID. False is not 'the service is not there': for that ask
+ * barleyrope_service_presence.
  */
 bool barleyrope_lists_service(const uint8_t *data, size_t len, uint64_t low, uint64_t high);
 
@@ -1162,6 +1246,21 @@ bool barleyrope_find_service(const uint8_t *data, size_t len, uint64_t low, uint
                              size_t *start, size_t *count);
 
 /*
+ * The same search over advertising data and scan response, with three answers. Unknown is not false:
+ * see BARLEYROPE_UNKNOWN above.
+ *
+ *   data, len, low, high     as above
+ *   response, response_len   the scan response data, likewise; NULL and 0 where there is none
+ *
+ * Returns BARLEYROPE_LISTED if either lists the UUID; else BARLEYROPE_UNKNOWN if either has a list of
+ * type 02, 04 or 06 or ends in a structure that runs past its end; else BARLEYROPE_ABSENT. A length of 0
+ * ends the data and is no such end. It is BARLEYROPE_LISTED exactly where barleyrope_lists_service is true of
+ * one of the two.
+ */
+uint32_t barleyrope_service_presence(const uint8_t *data, size_t len, const uint8_t *response,
+                                     size_t response_len, uint64_t low, uint64_t high);
+
+/*
  * Whether the numbers of a connection parameter update request (Core Specification Vol 3 Part A
  * 4.20) may be granted.
  *
@@ -1174,6 +1273,289 @@ bool barleyrope_find_service(const uint8_t *data, size_t len, uint64_t low, uint
  * longer than two latent intervals: 4 * timeout > (1 + latency) * max.
  */
 bool barleyrope_params_good(uint16_t min, uint16_t max, uint16_t latency, uint16_t timeout);
+
+/* ---- H4: HCI packets over a UART ------------------------------------------------------------- */
+
+/*
+ * A controller on a UART speaks H4 (Core Specification Vol 4 Part A): packet behind packet, each with an
+ * indicator in front and its length in its header (Vol 4 Part E 5.4). These functions cut what comes in
+ * into whole packets, turn ACL packets into calls of barleyrope_on_fragment, and build ACL packets and
+ * events. They need no state but a stream. examples/uart.c has both ends of a UART.
+ *
+ *     static barleyrope_h4_stream stream;                  // all zero is a fresh one
+ *     uint8_t in[256], packets[BARLEYROPE_H4_MAX_PACKET + sizeof in];
+ *
+ *     size_t n = your_uart_read(in, sizeof in), at, len;
+ *     barleyrope_h4_fed fed = barleyrope_h4_feed(&stream, in, n, packets, sizeof packets);
+ *     for (at = 0; at < fed.bytes; at += len) {
+ *         len = barleyrope_h4_packet_len(packets + at, fed.bytes - at).len;
+ *         your_packet(packets + at, len);
+ *     }
+ *     if (fed.refusal) your_uart_reopen(), barleyrope_h4_reset(&stream);
+ */
+
+enum {
+    BARLEYROPE_H4_COMMAND = 1,
+    BARLEYROPE_H4_ACL = 2,
+    BARLEYROPE_H4_SCO = 3,
+    BARLEYROPE_H4_EVENT = 4,
+    BARLEYROPE_H4_ISO = 5
+};
+
+#define BARLEYROPE_H4_MAX_PACKET 1024 /* bytes, indicator and header counted; a stream takes and holds no more */
+#define BARLEYROPE_H4_MAX_ACL 1019    /* bytes of data in an ACL packet */
+#define BARLEYROPE_H4_MAX_PARAMS 255  /* parameter bytes of an event */
+
+/* What libbarleyrope.a has for the functions below: you need not read this part. Every call writes all of
+ * told; words that an answer does not use are 0. stream and held are those of a barleyrope_h4_stream. */
+
+/* told: refusal, 1 if the length is known, the length, an undefined indicator. */
+void barleyrope_h4_packet_len_words(const uint8_t *bytes, size_t bytes_len, uint64_t told[4]);
+void barleyrope_h4_reset_words(uint64_t stream[2]);
+
+/* told: 0, bytes held. */
+void barleyrope_h4_buffered_words(const uint64_t stream[2], uint64_t told[4]);
+
+/* told: refusal, packets, their bytes. */
+void barleyrope_h4_feed_words(uint64_t stream[2], uint8_t held[1024], const uint8_t *bytes, size_t bytes_len,
+                              uint8_t *out, size_t out_len, uint64_t told[4]);
+
+/* told: refusal, bytes of the packet. pairs_len is in numbers, two for each pair. */
+void barleyrope_h4_acl_words(uint8_t *out, size_t out_len, uint16_t handle, uint8_t flag, const uint8_t *data,
+                             size_t data_len, uint64_t told[4]);
+void barleyrope_h4_event_words(uint8_t *out, size_t out_len, uint8_t code, const uint8_t *params,
+                               size_t params_len, uint64_t told[4]);
+void barleyrope_h4_command_complete_words(uint8_t *out, size_t out_len, uint8_t num, uint16_t opcode,
+                                          const uint8_t *returned, size_t returned_len, uint64_t told[4]);
+void barleyrope_h4_command_status_words(uint8_t *out, size_t out_len, uint8_t num, uint8_t status,
+                                        uint16_t opcode, uint64_t told[4]);
+void barleyrope_h4_number_of_completed_packets_words(uint8_t *out, size_t out_len, const uint16_t *pairs,
+                                                     size_t pairs_len, uint64_t told[4]);
+void barleyrope_h4_le_meta_words(uint8_t *out, size_t out_len, uint8_t subevent, const uint8_t *params,
+                                 size_t params_len, uint64_t told[4]);
+
+/* told: 1 if it is an ACL packet, handle, boundary flag, place and length of its data. */
+void barleyrope_h4_acl_parts_words(const uint8_t *packet, size_t packet_len, uint64_t told[5]);
+
+/* told: 1 if there is a fragment, 1 if a frame begins, place and length of its bytes. */
+void barleyrope_h4_fragment_words(const uint8_t *packet, size_t packet_len, uint16_t handle, uint64_t told[4]);
+
+/* How long a packet is. */
+typedef struct barleyrope_h4_length {
+    int refusal;   /* 9: the first byte is no indicator */
+    bool is_known; /* false, with no refusal: its header is not all there */
+    size_t len;    /* indicator and header counted: up to 65,540, also where a stream would refuse it */
+} barleyrope_h4_length;
+
+/* Of the packet that begins here; of its bytes, the first len are looked at. */
+static inline barleyrope_h4_length barleyrope_h4_packet_len(const uint8_t *bytes, size_t len)
+{
+    uint64_t told[4];
+    barleyrope_h4_length length;
+    barleyrope_h4_packet_len_words(bytes, len, told);
+    length.refusal = (int)told[0];
+    length.is_known = told[1] == 1;
+    length.len = (size_t)told[2];
+    return length;
+}
+
+/*
+ * What comes in from a UART: 1,040 bytes. All zero is a fresh stream. Any bytes may be handed in as one;
+ * refusal 1 is for a count over 1,024 alone.
+ */
+typedef struct barleyrope_h4_stream {
+    uint64_t words[2]; /* bytes held of a packet that is not whole; 0, or the 9 or 10 that every feed gets */
+    uint8_t held[BARLEYROPE_H4_MAX_PACKET];
+} barleyrope_h4_stream;
+
+/* Makes a stream a fresh one: what it held is dropped, and bytes are taken again. */
+static inline void barleyrope_h4_reset(barleyrope_h4_stream *stream)
+{
+    barleyrope_h4_reset_words(stream->words);
+}
+
+/* How many bytes it holds. */
+static inline size_t barleyrope_h4_buffered(const barleyrope_h4_stream *stream)
+{
+    uint64_t told[4];
+    barleyrope_h4_buffered_words(stream->words, told);
+    return (size_t)told[1];
+}
+
+typedef struct barleyrope_h4_fed {
+    int refusal;    /* BARLEYROPE_ACCEPTED, or why the rest of the bytes was not taken */
+    size_t packets; /* whole packets, in out end to end; with a refusal of 9 or 10 too */
+    size_t bytes;   /* and their bytes */
+} barleyrope_h4_fed;
+
+/*
+ * Bytes came in, any number of them: the packets that are whole now go to out, one behind another, oldest
+ * first. What is left of an unfinished one is held for the next feed. How the bytes are cut into feeds makes
+ * no difference to the packets, nor to the refusal.
+ *
+ *   bytes   len of them, only read
+ *   out     written from its start; out_size is at least what is held and len, or refusal 2. With
+ *           BARLEYROPE_H4_MAX_PACKET + len it always is. Bytes behind the packets are as they were.
+ *
+ * Refusals, in this order:
+ *   1    over 1,024 bytes are held: the stream is not one that a feed left
+ *   2    out_size; nothing is taken, and the same bytes may be fed again
+ *   9    where a packet should begin stands none of the five indicators
+ *   10   a packet says that it is over 1,024 bytes; told when its header is there, before its body
+ * With 9 and 10 the packets before that place are given. The stream is lost then: it holds nothing, drops
+ * what comes, and every later feed gets the same refusal, until barleyrope_h4_reset.
+ */
+static inline barleyrope_h4_fed barleyrope_h4_feed(barleyrope_h4_stream *stream, const uint8_t *bytes, size_t len,
+                                                   uint8_t *out, size_t out_size)
+{
+    uint64_t told[4];
+    barleyrope_h4_fed fed;
+    barleyrope_h4_feed_words(stream->words, stream->held, bytes, len, out, out_size, told);
+    fed.refusal = (int)told[0];
+    fed.packets = (size_t)told[1];
+    fed.bytes = (size_t)told[2];
+    return fed;
+}
+
+/* What an ACL packet has in it. */
+typedef struct barleyrope_h4_acl_parts {
+    bool is_acl;         /* false: another packet, or not all of its bytes are there; the rest is 0 then */
+    uint16_t handle;     /* 12 bits */
+    uint8_t flag;        /* the packet boundary flag, 0 to 3 */
+    const uint8_t *data; /* data_len bytes, in packet */
+    size_t data_len;
+} barleyrope_h4_acl_parts;
+
+static inline barleyrope_h4_acl_parts barleyrope_h4_split_acl(const uint8_t *packet, size_t len)
+{
+    uint64_t told[5];
+    barleyrope_h4_acl_parts parts;
+    barleyrope_h4_acl_parts_words(packet, len, told);
+    parts.is_acl = told[0] == 1;
+    parts.handle = (uint16_t)told[1];
+    parts.flag = (uint8_t)told[2];
+    parts.data = parts.is_acl ? packet + (size_t)told[3] : NULL;
+    parts.data_len = (size_t)told[4];
+    return parts;
+}
+
+/* What barleyrope_on_fragment takes. */
+typedef struct barleyrope_h4_fragment {
+    bool is_there;       /* false: no ACL packet, of another link, or of boundary flag 3; the rest is 0 then */
+    bool start;          /* boundary flag 0 or 2; else 1 */
+    const uint8_t *data; /* data_len bytes, in packet */
+    size_t data_len;
+} barleyrope_h4_fragment;
+
+/*
+ * The fragment that a packet brings to the link of a handle:
+ *
+ *     barleyrope_h4_fragment f = barleyrope_h4_fragment_of(packet, len, handle);
+ *     if (f.is_there)
+ *         barleyrope_on_fragment(&state, store, sizeof store, out, sizeof out, now_us, f.start, f.data, f.data_len);
+ */
+static inline barleyrope_h4_fragment barleyrope_h4_fragment_of(const uint8_t *packet, size_t len, uint16_t handle)
+{
+    uint64_t told[4];
+    barleyrope_h4_fragment fragment;
+    barleyrope_h4_fragment_words(packet, len, handle, told);
+    fragment.is_there = told[0] == 1;
+    fragment.start = told[1] == 1;
+    fragment.data = fragment.is_there ? packet + (size_t)told[2] : NULL;
+    fragment.data_len = (size_t)told[3];
+    return fragment;
+}
+
+/*
+ * The builders write one packet to the start of out; bytes behind it are as they were. Refusals, in this
+ * order, with nothing written:
+ *   2    out_size is under the packet's length
+ *   10   over 1,019 bytes of ACL data, or over 255 parameter bytes in all of an event
+ */
+typedef struct barleyrope_h4_built {
+    int refusal;
+    size_t bytes; /* of the packet; 0 if refused */
+} barleyrope_h4_built;
+
+static inline barleyrope_h4_built barleyrope_h4_built_of(const uint64_t told[4])
+{
+    barleyrope_h4_built built;
+    built.refusal = (int)told[0];
+    built.bytes = (size_t)told[1];
+    return built;
+}
+
+/*
+ * An ACL packet: of the handle the low 12 bits, of the flag the low 2. To a controller, a frame's first
+ * packet has flag 0 and the others flag 1; each has at most as many bytes of data as the controller takes.
+ */
+static inline barleyrope_h4_built barleyrope_h4_acl(uint8_t *out, size_t out_size, uint16_t handle, uint8_t flag,
+                                                    const uint8_t *data, size_t len)
+{
+    uint64_t told[4];
+    barleyrope_h4_acl_words(out, out_size, handle, flag, data, len, told);
+    return barleyrope_h4_built_of(told);
+}
+
+/* An event of a code and its parameters. The rest are events that have their own form. */
+static inline barleyrope_h4_built barleyrope_h4_event(uint8_t *out, size_t out_size, uint8_t code,
+                                                      const uint8_t *params, size_t len)
+{
+    uint64_t told[4];
+    barleyrope_h4_event_words(out, out_size, code, params, len, told);
+    return barleyrope_h4_built_of(told);
+}
+
+/* Command Complete (Vol 4 Part E 7.7.14): how many commands may be sent, and what a command returned, its
+ * status first, at most 252 bytes. */
+static inline barleyrope_h4_built barleyrope_h4_command_complete(uint8_t *out, size_t out_size, uint8_t num,
+                                                                 uint16_t opcode, const uint8_t *returned,
+                                                                 size_t len)
+{
+    uint64_t told[4];
+    barleyrope_h4_command_complete_words(out, out_size, num, opcode, returned, len, told);
+    return barleyrope_h4_built_of(told);
+}
+
+/* Command Status (7.7.15). */
+static inline barleyrope_h4_built barleyrope_h4_command_status(uint8_t *out, size_t out_size, uint8_t num,
+                                                               uint8_t status, uint16_t opcode)
+{
+    uint64_t told[4];
+    barleyrope_h4_command_status_words(out, out_size, num, status, opcode, told);
+    return barleyrope_h4_built_of(told);
+}
+
+/* Of a link: how many of its packets the controller has sent. */
+typedef struct barleyrope_h4_completed {
+    uint16_t handle;
+    uint16_t packets;
+} barleyrope_h4_completed;
+
+typedef char barleyrope_h4_completed_is_two_numbers[sizeof(barleyrope_h4_completed) == 4 ? 1 : -1];
+
+/* Number Of Completed Packets (7.7.19), of count links, at most 63. */
+static inline barleyrope_h4_built barleyrope_h4_number_of_completed_packets(uint8_t *out, size_t out_size,
+                                                                            const barleyrope_h4_completed *links,
+                                                                            size_t count)
+{
+    uint64_t told[4];
+    /* twice the count must be a size, and no output is as long as so many links' packet: refusal 2 */
+    if (count > SIZE_MAX / 4)
+        count = SIZE_MAX / 4;
+    barleyrope_h4_number_of_completed_packets_words(out, out_size, (const uint16_t *)(const void *)links, 2 * count,
+                                                    told);
+    return barleyrope_h4_built_of(told);
+}
+
+/* LE Meta (7.7.65): a subevent and its parameters, at most 254 bytes. */
+static inline barleyrope_h4_built barleyrope_h4_le_meta(uint8_t *out, size_t out_size, uint8_t subevent,
+                                                        const uint8_t *params, size_t len)
+{
+    uint64_t told[4];
+    barleyrope_h4_le_meta_words(out, out_size, subevent, params, len, told);
+    return barleyrope_h4_built_of(told);
+}
 
 #ifdef __cplusplus
 }

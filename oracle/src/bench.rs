@@ -1,4 +1,4 @@
-//! What the search and the parameter test cost, as a ratio to the Rust: `bench [seed N] [rounds N]`.
+//! What the search, its three-way form and the parameter test cost, as a ratio to the Rust: `bench [seed N] [rounds N]`.
 //!
 //! Both sides are called through an `extern "C"` function pointer with the same arguments, over the same inputs, in
 //! turn, round after round; the best round of each counts, and beside it the median of the rounds' own ratios stands.
@@ -19,10 +19,12 @@ use std::hint::black_box;
 use std::time::Instant;
 
 type Search = extern "C" fn(*const u8, usize, u64, u64) -> bool;
+type Presence = extern "C" fn(*const u8, usize, *const u8, usize, u64, u64) -> u32;
 type Params = extern "C" fn(u16, u16, u16, u16) -> bool;
 
 unsafe extern "C" {
     safe fn barleyrope_lists_service(data: *const u8, len: usize, low: u64, high: u64) -> bool;
+    safe fn barleyrope_service_presence(data: *const u8, len: usize, response: *const u8, response_len: usize, low: u64, high: u64) -> u32;
     safe fn barleyrope_params_good(min: u16, max: u16, latency: u16, timeout: u16) -> bool;
 }
 
@@ -46,6 +48,19 @@ fn search(call: Search, cases: &[Case]) -> (usize, f64) {
     for c in cases {
         let c = black_box(c);
         yes += usize::from(call(c.data.as_ptr(), c.data.len(), c.uuid as u64, (c.uuid >> 64) as u64));
+    }
+    (black_box(yes), began.elapsed().as_nanos() as f64 / cases.len() as f64)
+}
+
+/// The same of the three-way search, with no scan response.
+fn presences(call: Presence, cases: &[Case]) -> (usize, f64) {
+    const LISTED: u32 = 1;
+    let call = black_box(call);
+    let began = Instant::now();
+    let mut yes = 0;
+    for c in cases {
+        let c = black_box(c);
+        yes += usize::from(call(c.data.as_ptr(), c.data.len(), std::ptr::null(), 0, c.uuid as u64, (c.uuid >> 64) as u64) == LISTED);
     }
     (black_box(yes), began.elapsed().as_nanos() as f64 / cases.len() as f64)
 }
@@ -81,7 +96,7 @@ fn compare(name: &str, inputs: usize, rounds: usize, mut rust: impl FnMut() -> (
     }
     ratios.sort_by(f64::total_cmp);
     println!(
-        "{name:34} {:5.2} of the Rust's time (median of rounds {:.2}; {best_port:.1} ns to {best_rust:.1} ns; {inputs} inputs, {hits} yes)",
+        "{name:40} {:5.2} of the Rust's time (median of rounds {:.2}; {best_port:.1} ns to {best_rust:.1} ns; {inputs} inputs, {hits} yes)",
         best_port / best_rust,
         ratios[ratios.len() / 2],
     );
@@ -137,6 +152,7 @@ fn main() {
         ("search, mixed of any length", searches(seed, |_| true)),
     ] {
         compare(name, INPUTS, rounds, || search(rust_search, &cases), || search(barleyrope_lists_service, &cases));
+        compare(&format!("three-way {name}"), INPUTS, rounds, || search(rust_search, &cases), || presences(barleyrope_service_presence, &cases));
     }
     let mut r = Random::new(seed);
     let mut c = Case::default();

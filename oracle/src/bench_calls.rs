@@ -1,4 +1,4 @@
-//! What the calls cost, as ratios to the Rust: `bench_calls [rounds N]`.
+//! What the calls cost, as ratios to the Rust: `bench_calls [rounds N] [rows TEXT]`.
 //!
 //! The port's side of each row is a loop in Rattle, once of the calls on lent tables (crates/tool_bench) and once of those on a state
 //! by value (crates/tool_bench_value). It is timed whole and less its set-up (the same loop of 0 calls); the Rust's side is the same
@@ -11,6 +11,8 @@
 mod c;
 #[path = "bench/c_words.rs"]
 mod c_words;
+#[path = "bench/clock.rs"]
+mod clock;
 #[allow(dead_code)]
 #[path = "compare/exports.rs"]
 mod exports;
@@ -28,9 +30,9 @@ mod state;
 #[path = "bench/states.rs"]
 mod states;
 
+use clock::ran;
 use oracle::ble::central::Central;
 use setup::Lent;
-use std::ffi::c_int;
 use std::hint::black_box;
 
 /// The port's forms of each call: in Rattle's loops, and from C.
@@ -46,25 +48,6 @@ const SIDES: usize = 1 + FORMS.len();
 
 /// One number of what the calls gave and left, and the nanoseconds that all took.
 pub type Took = (u64, f64);
-
-#[repr(C)]
-struct Moment {
-    seconds: i64,
-    nanoseconds: i64,
-}
-
-unsafe extern "C" {
-    fn clock_gettime(clock: c_int, at: *mut Moment) -> c_int;
-}
-
-/// The nanoseconds that this thread has run.
-fn ran() -> f64 {
-    const THREAD_CPUTIME: c_int = 3;
-    let mut at = Moment { seconds: 0, nanoseconds: 0 };
-    // SAFETY: a `timespec` of Linux on 64 bits.
-    assert_eq!(unsafe { clock_gettime(THREAD_CPUTIME, &mut at) }, 0, "the thread's clock");
-    at.seconds as f64 * 1e9 + at.nanoseconds as f64
-}
 
 pub fn timed(f: impl FnOnce() -> u64) -> Took {
     let began = ran();
@@ -159,6 +142,9 @@ pub fn compare(
     mut rust: impl FnMut() -> Took,
     mut port: impl FnMut(Form) -> Took,
 ) {
+    if word("rows").is_some_and(|text| !name.contains(&text)) {
+        return;
+    }
     let mut sides = [const { Side::new() }; SIDES];
     for round in 0..rounds {
         let mut told = [0; SIDES];
@@ -184,16 +170,16 @@ pub fn compare(
     }
 }
 
-fn option(name: &str, default: usize) -> usize {
-    let words: Vec<String> = std::env::args().collect();
-    let given = words.iter().position(|w| w == name).and_then(|i| words.get(i + 1)).and_then(|n| n.parse().ok());
-    given.unwrap_or(default)
+/// What stands behind this word.
+fn word(name: &str) -> Option<String> {
+    std::env::args().skip_while(|w| w != name).nth(1)
 }
 
 fn main() {
-    let rounds = option("rounds", 200);
+    let rounds = word("rounds").and_then(|n| n.parse().ok()).unwrap_or(200);
     let mut l = Lent::new();
     script::rows(&mut l, rounds);
     radio::rows(&mut l, rounds);
     link::rows(&mut l, rounds);
+    link::searches(&mut l, rounds);
 }

@@ -1,12 +1,13 @@
 //! Runs sequences of calls on the oracle and on a player of the port and compares their answers line by line.
 //!
-//!   compare PORT [seed N] [count N] [total N] [calls N] [dumps N] [groups script,radio,link] [save FOLDER] [refusals] [aged] [few] [first]
+//!   compare PORT [seed N] [count N] [total N] [calls N] [dumps N] [groups script,radio,link] [save FOLDER] [refusals] [aged] [strict] [few] [first]
 //!
 //! PORT is a program that plays a trace (docs/TRACE.md), or `-` for none: sequences are then only made.
 //! `count` sequences of at least `calls` calls each are run, or so many that there are `total` calls, with `dumps` dumps in a
 //! hundred calls. With `refusals`, calls that 01 refuses are among them; the Rust has no answer for these, and the wanted one is
-//! that of gate.rs. With `aged`, for which it must be compiled against the extended Rust, most waits have an age. `first` ends at the first difference, with no shrinking. The ending is 0 where there is no difference and
-//! each cell that can be reached was; with `few` that is not asked.
+//! that of gate.rs. With `aged` most waits have an age, with `strict` the mode of most sequences is strict; for both it must be
+//! compiled against the extended Rust. `first` ends at the first difference, with no shrinking. The ending is 0 where there is no
+//! difference and each cell that can be reached was; with `few` that is not asked.
 
 #[path = "compare/asked.rs"]
 mod asked;

@@ -1,9 +1,9 @@
 //! Runs sequences of calls on the oracle and on the port through its C interface, in one process, and compares their answers.
 //!
-//!   compare_c [seed N] [count N] [total N] [calls N] [dumps N] [groups script,radio,link] [save FOLDER] [refusals] [aged] [few] [first]
+//!   compare_c [seed N] [count N] [total N] [calls N] [dumps N] [groups script,radio,link] [save FOLDER] [refusals] [aged] [strict] [few] [first]
 //!
 //! The words are those of `compare`, whose generator, gate and answers it shares. Every answer is compared, with the bytes sent;
-//! at a dump the state that the words say, with the Rust's own, the four views of one report and the notification that one result
+//! at a dump the state that the words say, with the Rust's own, the five views of one report and the notification that one result
 //! names; at a refusal, that nothing lent has changed.
 
 #[path = "compare/asked.rs"]
@@ -67,12 +67,14 @@ struct Beside {
     differs: Option<(usize, Vec<u8>, Vec<u8>)>,
 }
 
-/// The line of a call; behind a dump's that of `links`, which it is compared with too.
+/// The line of a call; behind a dump's those of `links` and `mode`, which it is compared with too.
 fn shown(call: &Call, line: impl Fn(&Call) -> Vec<u8>) -> Vec<u8> {
     let mut text = line(call);
     if *call == Call::Dump && one::IS_THERE {
-        text.push(b' ');
-        text.extend(line(&Call::Links));
+        for more in [Call::Links, Call::Mode] {
+            text.push(b' ');
+            text.extend(line(&more));
+        }
     }
     text
 }

@@ -22,7 +22,7 @@ size_t leaf_listed_body(const uint8_t *data, size_t len, const uint8_t *response
 #define ATT_ROOM 20
 #define BODY_ROOM 256
 
-enum tag { PARSE, FROM_ATT, TO_ATT, LISTS_SERVICE, FIND_SERVICE, LISTED_BODY, LOCAL_NAME, PARAMS_GOOD };
+enum tag { PARSE, FROM_ATT, TO_ATT, LISTS_SERVICE, FIND_SERVICE, LISTED_BODY, LOCAL_NAME, PARAMS_GOOD, SERVICE_PRESENCE };
 
 #define HEADER ((size_t)21)
 #define ROOM ((size_t)1 << 20)
@@ -117,6 +117,10 @@ static bool answer(const struct request *r) {
     case PARAMS_GOOD:
         told = barleyrope_params_good((uint16_t)r->low, (uint16_t)(r->low >> 16), (uint16_t)(r->low >> 32),
                                       (uint16_t)(r->low >> 48));
+        tell(&told, sizeof told);
+        return true;
+    case SERVICE_PRESENCE:
+        told = barleyrope_service_presence(r->data, r->len, r->response, r->response_len, r->low, r->high);
         tell(&told, sizeof told);
         return true;
     default:

@@ -2,8 +2,9 @@
 //!
 //! One thread makes the inputs and writes the requests; the other makes the same inputs again, reads the answers in
 //! their order and compares. Nothing waits for a single answer, so it is fast also where the program is emulated.
-//! For each leaf a fixed set (all short inputs, boundaries) and `count` random ones (1,000,000). What is told of the
-//! place of a body or a name is compared with a slow computation, since the Rust does not tell it. The Rust reads UUID text
+//! For each leaf a fixed set (all short inputs, boundaries) and `count` random ones (1,000,000; of the three-way search twice as
+//! many). What is told of the place of a body or a name, and of a service that is not listed, is compared with a slow
+//! computation, since the Rust does not tell it. The Rust reads UUID text
 //! from a `&str`, so text that is not UTF-8 has no answer there: it is left out of the number tried, and the port has
 //! to say that it is no UUID.
 //! The first difference is shrunk and printed with both answers, and ends the run with status 1. So does a leaf of
@@ -64,6 +65,8 @@ struct Leaf {
     shows: &'static [Part],
     fixed: fn(Each),
     random: fn(&mut Random, u64, &mut Case),
+    /// How many times `count` random inputs it gets.
+    times: u64,
     ask: Ask,
     check: Check,
 }
@@ -77,13 +80,14 @@ enum Part {
     Params,
 }
 
-const LEAVES: [Leaf; 7] = [
+const LEAVES: [Leaf; 8] = [
     Leaf {
         name: "parse",
         kinds: &["short", "long", "none"],
         shows: &[Part::Text],
         fixed: inputs::text_fixed,
         random: inputs::text,
+        times: 1,
         ask: |c, to| to.parse(&c.data),
         check: parse,
     },
@@ -93,6 +97,7 @@ const LEAVES: [Leaf; 7] = [
         shows: &[Part::Data],
         fixed: inputs::att_fixed,
         random: inputs::att,
+        times: 1,
         ask: |c, to| to.from_att(&c.data),
         check: from_att,
     },
@@ -102,6 +107,7 @@ const LEAVES: [Leaf; 7] = [
         shows: &[Part::Uuid],
         fixed: inputs::uuid_fixed,
         random: inputs::uuid,
+        times: 1,
         ask: ask_to_att,
         check: to_att,
     },
@@ -111,6 +117,7 @@ const LEAVES: [Leaf; 7] = [
         shows: &[Part::Data, Part::Uuid],
         fixed: inputs::search_fixed,
         random: inputs::search,
+        times: 1,
         ask: ask_search,
         check: search,
     },
@@ -120,8 +127,19 @@ const LEAVES: [Leaf; 7] = [
         shows: &[Part::Data, Part::Response, Part::Uuid],
         fixed: inputs::search_fixed,
         random: inputs::search,
+        times: 1,
         ask: |c, to| to.listed_body(&c.data, &c.response, c.uuid),
         check: matched_body,
+    },
+    Leaf {
+        name: "presence",
+        kinds: &PRESENCES,
+        shows: &[Part::Data, Part::Response, Part::Uuid],
+        fixed: inputs::search_fixed,
+        random: inputs::presence,
+        times: 2,
+        ask: |c, to| to.service_presence(&c.data, &c.response, c.uuid),
+        check: presence,
     },
     Leaf {
         name: "name",
@@ -129,6 +147,7 @@ const LEAVES: [Leaf; 7] = [
         shows: &[Part::Data],
         fixed: inputs::name_fixed,
         random: inputs::name,
+        times: 1,
         ask: |c, to| to.local_name(&c.data),
         check: name,
     },
@@ -138,6 +157,7 @@ const LEAVES: [Leaf; 7] = [
         shows: &[Part::Params],
         fixed: inputs::params_fixed,
         random: inputs::params,
+        times: 1,
         ask: |c, to| to.params_good(c.params()),
         check: params,
     },
@@ -234,6 +254,48 @@ fn matched_body(c: &Case, port: &mut Answers, _: &mut rust::Params) -> Verdict {
         1
     } else {
         2
+    })
+}
+
+/// What the three-way search answers, and why: of the unknown those that have one cause, in the data alone or in the response alone.
+const PRESENCES: [&str; 14] = [
+    "listed in the data",
+    "listed in the response, the data unknown",
+    "listed in the response, the data absent",
+    "absent, no response",
+    "absent",
+    "unknown by 02 in the data",
+    "by 04",
+    "by 06",
+    "by an overrun",
+    "unknown by 02 in the response",
+    "by 04 there",
+    "by 06 there",
+    "by an overrun there",
+    "unknown by several",
+];
+
+fn presence(c: &Case, port: &mut Answers, _: &mut rust::Params) -> Verdict {
+    const ABSENT: u64 = 0;
+    const LISTED: u64 = 1;
+    const UNKNOWN: u64 = 2;
+    let listed = [rust::lists_service(&c.data, c.uuid), rust::lists_service(&c.response, c.uuid)];
+    let causes = [slow::causes(&c.data), slow::causes(&c.response)];
+    let want = match listed {
+        [false, false] if causes.concat().is_empty() => ABSENT,
+        [false, false] => UNKNOWN,
+        _ => LISTED,
+    };
+    let got = port.service_presence();
+    if got != want {
+        return differ((want, listed, causes), got);
+    }
+    Alike(match (want, &causes[0][..], &causes[1][..]) {
+        (LISTED, data, _) => if listed[0] { 0 } else { 2 - usize::from(!data.is_empty()) },
+        (ABSENT, _, _) => 3 + usize::from(!c.response.is_empty()),
+        (_, [cause], []) => 5 + *cause as usize,
+        (_, [], [cause]) => 9 + *cause as usize,
+        _ => 13,
     })
 }
 
@@ -409,7 +471,7 @@ fn each_case(leaf: &Leaf, o: &Options, each: Each) {
     (leaf.fixed)(each);
     let mut random = Random::new(o.seed);
     let mut c = Case::default();
-    for i in 0..o.count {
+    for i in 0..o.count * leaf.times {
         (leaf.random)(&mut random, i, &mut c);
         each(&c);
     }
@@ -469,7 +531,7 @@ fn run(leaf: &Leaf, o: &Options) {
         kinds.join(", "),
         began.elapsed().as_secs_f64()
     );
-    if let Some(k) = counts.iter().position(|n| *n < o.count / 200) {
+    if let Some(k) = counts.iter().position(|n| *n < o.count * leaf.times / 200) {
         println!("{}: the answer '{}' hardly came up, so this run shows nothing of it", leaf.name, leaf.kinds[k]);
         exit(1)
     }

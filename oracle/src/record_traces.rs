@@ -24,7 +24,8 @@ fn main() -> ExitCode {
     };
     let has = |g: &str| groups.split(',').any(|x| x == g);
     let groups = Groups { radio: has("radio"), link: has("link") };
-    let plan = Plan { seed: *seed, groups, refusals: true, aged: false, calls: *calls as usize, dumps: *dumps };
+    let plan =
+        Plan { seed: *seed, groups, refusals: true, aged: false, strict: false, calls: *calls as usize, dumps: *dumps };
     let (mut bytes, mut lines, mut counts) = (Vec::new(), Vec::new(), Counts::default());
     for number in 0..*count {
         let made = record(plan, number, &mut counts);

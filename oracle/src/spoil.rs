@@ -153,7 +153,7 @@ fn main() -> ExitCode {
     let number = |i: usize, or: u64| words.get(i).and_then(|w| w.parse().ok()).unwrap_or(or);
     let (seed, count) = (number(1, 1), number(2, 300));
     let groups = Groups { radio: true, link: true };
-    let plan = Plan { seed, groups, refusals: true, aged: one::IS_THERE, calls: 60, dumps: 2 };
+    let plan = Plan { seed, groups, refusals: true, aged: one::IS_THERE, strict: one::IS_THERE, calls: 60, dumps: 2 };
     let (mut rng, mut counts) = (Rng::new(seed, 1 << 40), Counts::default());
     let mut all = borders();
     for i in 0..count {

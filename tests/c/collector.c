@@ -47,7 +47,19 @@ struct found {
     size_t start, count;
 };
 
-/* Both searches, on the bytes laid against the end of the page and against its start. All must agree; the place is told
+/* Whether a service that is not listed may be there all the same, as 02 has it: a list of an even kind was read, or the last length is cut. */
+static bool may_be_there(const uint8_t *bytes, size_t len) {
+    bool incomplete = false;
+    size_t at = 0;
+    while (at < len && bytes[at] != 0 && bytes[at] < len - at) {
+        const uint8_t kind = bytes[at + 1];
+        incomplete = incomplete || kind == 2 || kind == 4 || kind == 6;
+        at += (size_t)1 + bytes[at];
+    }
+    return incomplete || (at < len && bytes[at] != 0);
+}
+
+/* All three searches, on the bytes laid against the end of the page and against its start. All must agree; the place is told
  * on a match and left alone otherwise, and the bytes are as they were. */
 static struct found look(const uint8_t *bytes, size_t len, uint64_t low, uint64_t high) {
     struct found told[2];
@@ -57,6 +69,10 @@ static struct found look(const uint8_t *bytes, size_t len, uint64_t low, uint64_
         memcpy(data, bytes, len);
         f.is = barleyrope_find_service(data, len, low, high, &f.start, &f.count);
         EXPECT(f.is == barleyrope_lists_service(data, len, low, high));
+        const uint32_t want = f.is ? BARLEYROPE_LISTED : may_be_there(bytes, len) ? BARLEYROPE_UNKNOWN : BARLEYROPE_ABSENT;
+        EXPECT(barleyrope_service_presence(data, len, NULL, 0, low, high) == want);
+        EXPECT(barleyrope_service_presence(NULL, 0, data, len, low, high) == want);
+        EXPECT(barleyrope_service_presence(data, len, data, len, low, high) == want);
         EXPECT(memcmp(data, bytes, len) == 0);
         if (f.is)
             EXPECT(2 <= f.start && f.count <= len && f.start <= len - f.count);
@@ -120,7 +136,26 @@ static void nothing_there(void) {
         EXPECT(!barleyrope_lists_service(nowhere[i], 0, BATTERY));
         EXPECT(!barleyrope_find_service(nowhere[i], 0, BATTERY, &start, &count));
         EXPECT(start == UNTOUCHED && count == UNTOUCHED);
+        EXPECT(barleyrope_service_presence(nowhere[i], 0, nowhere[i], 0, BATTERY) == BARLEYROPE_ABSENT);
     }
+}
+
+/* Rows of the table that is proved (adv_presence/specs/Samples.antt). */
+static void presences(void) {
+    static const uint8_t has[] = {3, 3, 0x0F, 0x18}, has_not[] = {3, 3, 0x0A, 0x18}, incomplete[] = {3, 2, 0x0A, 0x18};
+    static const uint8_t cut[] = {5, 3, 0x0A, 0x18}, alone[] = {1}, empty[] = {1, 2}, ended[] = {3, 2, 0x0A, 0x18, 0, 3, 3, 0x0F, 0x18};
+    EXPECT(barleyrope_service_presence(has, 4, NULL, 0, BATTERY) == BARLEYROPE_LISTED);
+    EXPECT(barleyrope_service_presence(has_not, 4, NULL, 0, BATTERY) == BARLEYROPE_ABSENT);
+    EXPECT(barleyrope_service_presence(incomplete, 4, NULL, 0, BATTERY) == BARLEYROPE_UNKNOWN);
+    EXPECT(barleyrope_service_presence(cut, 4, NULL, 0, BATTERY) == BARLEYROPE_UNKNOWN);
+    EXPECT(barleyrope_service_presence(alone, 1, NULL, 0, BATTERY) == BARLEYROPE_UNKNOWN);
+    EXPECT(barleyrope_service_presence(empty, 2, NULL, 0, BATTERY) == BARLEYROPE_UNKNOWN);
+    EXPECT(barleyrope_service_presence(ended, 9, NULL, 0, BATTERY) == BARLEYROPE_UNKNOWN);
+    EXPECT(barleyrope_service_presence(ended + 4, 5, NULL, 0, BATTERY) == BARLEYROPE_ABSENT);
+    EXPECT(barleyrope_service_presence(incomplete, 4, has, 4, BATTERY) == BARLEYROPE_LISTED);
+    EXPECT(barleyrope_service_presence(has_not, 4, incomplete, 4, BATTERY) == BARLEYROPE_UNKNOWN);
+    EXPECT(barleyrope_service_presence(incomplete, 4, has_not, 4, BATTERY) == BARLEYROPE_UNKNOWN);
+    EXPECT(barleyrope_service_presence(has_not, 4, has_not, 4, BATTERY) == BARLEYROPE_ABSENT);
 }
 
 /* Every first byte over every length up to 300, of each kind that lists services and some that do not, with bodies that match throughout. */
@@ -185,6 +220,7 @@ int main(void) {
     samples();
     halves();
     nothing_there();
+    presences();
     first_bytes();
     noise();
     parameters();

@@ -1,4 +1,5 @@
-/* The plain C of include/barleyrope.h: texts of UUIDs and addresses both ways, steps, and structs that say what the words say.
+/* The plain C of include/barleyrope.h: texts of UUIDs and addresses both ways, steps, and structs that say what the words say, the
+ * serial transport's too.
  * Compiled as C99 and as C++11. Prints the number of checks and ends with 0, or prints the failed checks and ends with 1. */
 #include "barleyrope.h"
 
@@ -98,12 +99,15 @@ static void addresses(void)
 static void numbers_in_words(void)
 {
     int i;
-    for (i = 0; i <= 8; i++)
+    for (i = 0; i <= 10; i++)
         EXPECT(strcmp(barleyrope_refusal_text(i), "no such refusal") != 0);
-    EXPECT(strcmp(barleyrope_refusal_text(9), "no such refusal") == 0 && barleyrope_refusal_text(-1) != NULL);
-    for (i = 0; i <= 7; i++)
+    EXPECT(strcmp(barleyrope_refusal_text(11), "no such refusal") == 0 && barleyrope_refusal_text(-1) != NULL);
+    for (i = BARLEYROPE_ABSENT; i <= BARLEYROPE_UNKNOWN; i++)
+        EXPECT(strcmp(barleyrope_presence_text(i), "no such answer") != 0);
+    EXPECT(strcmp(barleyrope_presence_text(3), "no such answer") == 0 && barleyrope_presence_text(-1) != NULL);
+    for (i = 0; i <= 8; i++)
         EXPECT(strcmp(barleyrope_status_text(i), "no such status") != 0);
-    EXPECT(strcmp(barleyrope_status_text(8), "no such status") == 0);
+    EXPECT(strcmp(barleyrope_status_text(9), "no such status") == 0);
     for (i = 0; i <= 12; i++)
         EXPECT(strcmp(barleyrope_kind_text((uint64_t)i), "no such step") != 0);
     EXPECT(strcmp(barleyrope_kind_text(13), "no such step") == 0);
@@ -159,11 +163,19 @@ static uint8_t store[BARLEYROPE_STORE_SIZE], out[BARLEYROPE_OUTPUT_SIZE];
 #define HELD &state, store, sizeof store
 #define LENT HELD, out, sizeof out
 
+/* What a report tells of a service. */
+static bool tells(size_t i, uint16_t service, int presence)
+{
+    const barleyrope_presence told = barleyrope_presence_in_report(HELD, i, barleyrope_short_uuid(service));
+    return told.refusal == 0 && told.is_kept && told.presence == presence;
+}
+
 /* A scan hears one advertiser, with a scan response. */
 static void hears(void)
 {
-    static const uint8_t data[] = {3, 0x03, 0x0F, 0x18}, response[] = {3, 0x03, 0x0A, 0x18};
+    static const uint8_t data[] = {3, 0x03, 0x0F, 0x18}, response[] = {3, 0x03, 0x0A, 0x18}, incomplete[] = {3, 0x02, 0x0A, 0x18};
     const barleyrope_address who = barleyrope_address_of(UINT64_C(0xC21122334455), true);
+    const barleyrope_address other = barleyrope_address_of(UINT64_C(0xC21122334456), true);
     const barleyrope_step script[] = {barleyrope_scan(100), barleyrope_connect_address(who, 24, 1, 100, 1000)};
     barleyrope_advertised heard;
     barleyrope_report report;
@@ -186,6 +198,11 @@ static void hears(void)
     part = barleyrope_find_in_report(HELD, 0, barleyrope_short_uuid(0x180A));
     EXPECT(part.refusal == 0 && part.data == report.response + 2 && part.len == 2);
     EXPECT(barleyrope_find_in_report(HELD, 0, barleyrope_short_uuid(0x1800)).data == NULL);
+    EXPECT(barleyrope_on_advertising(HELD, 4000, 38, BARLEYROPE_ADV_IND, other, incomplete, sizeof incomplete, false).refusal == 0);
+    EXPECT(tells(0, 0x180F, BARLEYROPE_LISTED) && tells(0, 0x180A, BARLEYROPE_LISTED) && tells(0, 0x1800, BARLEYROPE_ABSENT));
+    EXPECT(tells(1, 0x180A, BARLEYROPE_LISTED) && tells(1, 0x180F, BARLEYROPE_UNKNOWN));
+    EXPECT(!barleyrope_presence_in_report(HELD, 2, barleyrope_short_uuid(0x180F)).is_kept);
+    EXPECT(barleyrope_presence_in_report(&state, store, sizeof store - 1, 0, barleyrope_short_uuid(0x180F)).refusal == BARLEYROPE_WRONG_SIZE);
     EXPECT(barleyrope_on_timer(LENT, 101000).refusal == 0 && barleyrope_steps_ended(&state) == 1);
     heard = barleyrope_on_advertising(HELD, 102000, 38, BARLEYROPE_ADV_IND, who, data, sizeof data, false);
     EXPECT(heard.action == BARLEYROPE_ACTION_CONNECT && heard.interval == 24 && heard.latency == 1 && heard.timeout == 100);
@@ -353,6 +370,112 @@ static void refusals(void)
     EXPECT(barleyrope_on_timer(LENT, 0).refusal == BARLEYROPE_UNFIT && barleyrope_get_timer(HELD).refusal == BARLEYROPE_UNFIT);
 }
 
+/* ---- the serial transport -------------------------------------------------------------------------- */
+
+static barleyrope_h4_stream serial; /* all zero: a fresh one */
+
+/* Two packets and a byte of a third, then the rest of it and a byte that begins none. */
+static void feeds(void)
+{
+    static const uint8_t first[] = {4, 0x0E, 1, 7, 2, 0x40, 0x20, 2, 0, 8, 9, 1}, second[] = {3, 12, 0, 0xFF};
+    uint8_t packets[32];
+    barleyrope_h4_fed fed = barleyrope_h4_feed(&serial, first, sizeof first, packets, sizeof first - 1);
+    EXPECT(fed.refusal == BARLEYROPE_WRONG_SIZE && fed.packets == 0 && fed.bytes == 0 && barleyrope_h4_buffered(&serial) == 0);
+    fed = barleyrope_h4_feed(&serial, first, sizeof first, packets, sizeof first);
+    EXPECT(fed.refusal == 0 && fed.packets == 2 && fed.bytes == 11 && memcmp(packets, first, 11) == 0);
+    EXPECT(barleyrope_h4_buffered(&serial) == 1);
+    fed = barleyrope_h4_feed(&serial, second, sizeof second, packets, sizeof packets);
+    EXPECT(fed.refusal == BARLEYROPE_BAD_INDICATOR && fed.packets == 1 && fed.bytes == 4 && packets[0] == 1 && packets[3] == 0);
+    fed = barleyrope_h4_feed(&serial, first, sizeof first, packets, sizeof packets);
+    EXPECT(fed.refusal == BARLEYROPE_BAD_INDICATOR && fed.packets == 0 && barleyrope_h4_buffered(&serial) == 0);
+    barleyrope_h4_reset(&serial);
+    EXPECT(barleyrope_h4_feed(&serial, first, 4, packets, sizeof packets).packets == 1);
+    EXPECT(barleyrope_h4_feed(&serial, NULL, 0, NULL, 0).refusal == 0);
+}
+
+/* 1,024 bytes are a packet; 1,025 are too long as soon as the header is there. */
+static void lengths(void)
+{
+    static const uint8_t most[] = {2, 0, 0, 0xFB, 3}, more[] = {5, 0, 0, 0xFC, 0xC3}, none[] = {6};
+    static uint8_t rest[1019], packets[1024];
+    barleyrope_h4_length l = barleyrope_h4_packet_len(most, sizeof most);
+    EXPECT(l.refusal == 0 && l.is_known && l.len == BARLEYROPE_H4_MAX_PACKET);
+    l = barleyrope_h4_packet_len(more, sizeof more);
+    EXPECT(l.refusal == 0 && l.is_known && l.len == 1025);
+    EXPECT(!barleyrope_h4_packet_len(most, 4).is_known && barleyrope_h4_packet_len(most, 4).refusal == 0);
+    EXPECT(barleyrope_h4_packet_len(none, 1).refusal == BARLEYROPE_BAD_INDICATOR && !barleyrope_h4_packet_len(NULL, 0).is_known);
+    EXPECT(barleyrope_h4_feed(&serial, most, sizeof most, packets, sizeof packets).bytes == 0);
+    EXPECT(barleyrope_h4_feed(&serial, rest, sizeof rest, packets, sizeof packets).bytes == sizeof packets);
+    EXPECT(barleyrope_h4_feed(&serial, more, 4, packets, sizeof packets).refusal == 0);
+    EXPECT(barleyrope_h4_feed(&serial, more + 4, 1, packets, sizeof packets).refusal == BARLEYROPE_LONG_PACKET);
+    serial.words[0] = 1025;
+    EXPECT(barleyrope_h4_feed(&serial, rest, 1, packets, sizeof packets).refusal == BARLEYROPE_UNFIT);
+}
+
+static bool is_built(barleyrope_h4_built built, const uint8_t *packet, const uint8_t *wanted, size_t size)
+{
+    return built.refusal == 0 && built.bytes == size && memcmp(packet, wanted, size) == 0;
+}
+
+static void packets(void)
+{
+    static const uint8_t data[] = {7, 8}, acl[] = {2, 0x42, 0x20, 2, 0, 7, 8}, event[] = {4, 5, 2, 7, 8},
+                         complete[] = {4, 0x0E, 5, 1, 3, 0x0C, 7, 8}, status[] = {4, 0x0F, 4, 9, 1, 6, 4},
+                         completed[] = {4, 0x13, 9, 2, 0x40, 0, 1, 0, 0x41, 0, 2, 1}, meta[] = {4, 0x3E, 3, 1, 7, 8};
+    static const barleyrope_h4_completed links[] = {{0x40, 1}, {0x41, 0x102}};
+    uint8_t p[16];
+    barleyrope_h4_acl_parts parts = barleyrope_h4_split_acl(acl, sizeof acl);
+    barleyrope_h4_fragment f = barleyrope_h4_fragment_of(acl, sizeof acl, 0x42);
+    EXPECT(is_built(barleyrope_h4_acl(p, sizeof p, 0xF042, 2, data, 2), p, acl, sizeof acl));
+    EXPECT(is_built(barleyrope_h4_event(p, sizeof p, 5, data, 2), p, event, sizeof event));
+    EXPECT(is_built(barleyrope_h4_command_complete(p, sizeof p, 1, 0x0C03, data, 2), p, complete, sizeof complete));
+    EXPECT(is_built(barleyrope_h4_command_status(p, sizeof p, 1, 9, 0x0406), p, status, sizeof status));
+    EXPECT(is_built(barleyrope_h4_number_of_completed_packets(p, sizeof p, links, 2), p, completed, sizeof completed));
+    EXPECT(is_built(barleyrope_h4_le_meta(p, sizeof p, 1, data, 2), p, meta, sizeof meta));
+    EXPECT(barleyrope_h4_event(p, 4, 5, data, 2).refusal == BARLEYROPE_WRONG_SIZE && barleyrope_h4_event(p, 4, 5, data, 2).bytes == 0);
+    EXPECT(parts.is_acl && parts.handle == 0x42 && parts.flag == 2 && parts.data == acl + 5 && parts.data_len == 2);
+    EXPECT(f.is_there && f.start && f.data == acl + 5 && f.data_len == 2);
+    EXPECT(!barleyrope_h4_fragment_of(acl, sizeof acl, 0x43).is_there && barleyrope_h4_fragment_of(acl, sizeof acl, 0x43).data == NULL);
+    EXPECT(!barleyrope_h4_split_acl(acl, sizeof acl - 1).is_acl && !barleyrope_h4_split_acl(event, sizeof event).is_acl);
+}
+
+/* ---- options ---------------------------------------------------------------------------------------- */
+
+/* From whatever state was there: a read times out behind which another waits, and is answered a second later. How the other ended. */
+static int late_answer(uint64_t options)
+{
+    static const uint8_t answer[] = {2, 0, 4, 0, 0x0B, 7};
+    uint32_t first, second;
+    barleyrope_fresh_with(&state, options);
+    EXPECT(barleyrope_next_index(&state) == 0 && barleyrope_links_counted(&state) == 0 && !barleyrope_get_link(HELD).is_up);
+    EXPECT(barleyrope_on_connected(LENT, 0x40, 0).refusal == 0);
+    discovers();
+    first = begins(200000, barleyrope_read(LEVEL));
+    second = begins(200001, barleyrope_read(LEVEL));
+    EXPECT(barleyrope_on_timer(LENT, 30200000).refusal == 0 && ended(first) == BARLEYROPE_TIMEOUT);
+    comes(31200000, answer, sizeof answer);
+    return ended(second);
+}
+
+/* The old mode takes the late answer; strict mode asks nothing more until the next link, and lets a wait pass. */
+static void options(void)
+{
+    static const barleyrope_state none;
+    uint32_t index;
+    barleyrope_fresh_with(&state, 0);
+    EXPECT(memcmp(&state, &none, sizeof state) == 0);
+    EXPECT(late_answer(0) == BARLEYROPE_OK && late_answer(~(uint64_t)BARLEYROPE_STRICT) == BARLEYROPE_OK);
+    EXPECT(late_answer(UINT64_MAX) == BARLEYROPE_BEARER_CLOSED && late_answer(BARLEYROPE_STRICT) == BARLEYROPE_BEARER_CLOSED);
+    index = begins(32000000, barleyrope_wait_notification(LEVEL, 1000, 0, 0));
+    notifies(32000001, 0x1D, 9);
+    EXPECT(ended(index) == BARLEYROPE_OK);
+    EXPECT(ended(begins(33000000, barleyrope_write(LEVEL, false, 0, 0))) == BARLEYROPE_BEARER_CLOSED);
+    EXPECT(barleyrope_on_disconnected(HELD, 34000000) == 0);
+    EXPECT(ended(begins(35000000, barleyrope_read(LEVEL))) == BARLEYROPE_NOT_CONNECTED);
+    EXPECT(barleyrope_on_connected(LENT, 0x42, 36000000).refusal == 0);
+    EXPECT(ended(begins(37000000, barleyrope_write(LEVEL, false, 0, 0))) == BARLEYROPE_OK);
+}
+
 int main(void)
 {
     uuids();
@@ -365,6 +488,10 @@ int main(void)
     ages();
     other_links();
     refusals();
+    feeds();
+    lengths();
+    packets();
+    options();
     printf("%lu checks, %lu failed\n", checks, failures);
     return failures == 0 ? 0 : 1;
 }

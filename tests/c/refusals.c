@@ -12,8 +12,8 @@
 #include <stdio.h>
 #include <stdlib.h>
 #include <string.h>
-#include <sys/mman.h>
-#include <unistd.h>
+
+#include "walled.h"
 
 /* Nothing here allocates: the search for leaks at the end would take seconds and find none. */
 const char *__asan_default_options(void);
@@ -43,17 +43,6 @@ static void expect(bool ok, const char *what, int line) {
 static barleyrope_state state;                      /* what is lent */
 static uint8_t *store_end, *out_end;                /* what is lent ends there */
 static struct { barleyrope_state state; uint8_t store[STORE_SIZE]; } good; /* a state in which every call has something to do */
-
-/* The end of so many bytes, with a page behind it that may not be touched. */
-static uint8_t *walled(size_t size) {
-    size_t page = (size_t)sysconf(_SC_PAGESIZE), whole = (size + page - 1) / page * page;
-    uint8_t *all = mmap(NULL, whole + page, PROT_NONE, MAP_PRIVATE | MAP_ANONYMOUS, -1, 0);
-    if (all == MAP_FAILED || mprotect(all, whole, PROT_READ | PROT_WRITE) != 0) {
-        perror("mmap");
-        exit(2);
-    }
-    return all + whole;
-}
 
 /* The good state's bytes, as far as they go, in a store of this size. */
 static uint8_t *lent_store(size_t size) {
@@ -169,6 +158,11 @@ static void report_body(const lent *l, uint64_t *told) {
     barleyrope_report_body_words(state.core, state.tables, l->store, l->store_size, 0, battery.low, battery.high, told);
 }
 
+static void report_presence(const lent *l, uint64_t *told) {
+    barleyrope_uuid battery = barleyrope_short_uuid(0x180F);
+    barleyrope_report_presence_words(state.core, state.tables, l->store, l->store_size, 0, battery.low, battery.high, told);
+}
+
 /* A later refusal than 2 that the call has for its own arguments; 0 for none. */
 static const struct call {
     const char *name;
@@ -192,6 +186,7 @@ static const struct call {
     {"report_data", report_data, 8, false, true, 0},
     {"report_response", report_response, 8, false, true, 0},
     {"report_body", report_body, 8, false, true, 0},
+    {"report_presence", report_presence, 8, false, true, 0},
 };
 
 /* ---- one call with what is lent to it ----------------------------------------------------------------------------------------- */

@@ -5,6 +5,8 @@
  * Each call must answer with the refusal that the scope document's table gives, in its order of test; fit and the table are written
  * here once more, from the document and in C. With a refusal, state, store and output must be as before, byte for byte (7 alone
  * sets word 17 of the core to 0). After an accepted call the state must be fit and the answer must say what stands in the output.
+ * No call changes the options. Only a timer call closes a bearer, only a connected call opens it, and on a closed one in strict mode
+ * no call sends a request or a command.
  *
  * The sanitizers see this file and not the archive: state, store, output and every input lie against a page that may not be touched.
  * Prints what was tried and ends with 0; or prints the first failures and ends with 1. */
@@ -14,8 +16,9 @@
 #include <stdio.h>
 #include <stdlib.h>
 #include <string.h>
-#include <sys/mman.h>
-#include <unistd.h>
+
+#include "random.h"
+#include "walled.h"
 
 /* Nothing here allocates: the search for leaks at the end would take seconds and find none. */
 const char *__asan_default_options(void);
@@ -37,26 +40,6 @@ static void expect(bool ok, const char *what, int line) {
 
 #define EXPECT(ok) expect((ok), #ok, __LINE__)
 
-/* ---- random numbers (splitmix64) --------------------------------------------------------------------------------------------- */
-
-static uint64_t seed;
-
-static uint64_t any(void) {
-    uint64_t z = (seed += UINT64_C(0x9E3779B97F4A7C15));
-    z = (z ^ (z >> 30)) * UINT64_C(0xBF58476D1CE4E5B9);
-    z = (z ^ (z >> 27)) * UINT64_C(0x94D049BB133111EB);
-    return z ^ (z >> 31);
-}
-
-/* Below n. */
-static size_t below(size_t n) {
-    return (size_t)(any() % n);
-}
-
-static bool one_in(size_t n) {
-    return below(n) == 0;
-}
-
 #define EDGE62 (UINT64_C(1) << 62)
 #define EDGE63 (UINT64_C(1) << 63)
 
@@ -76,17 +59,6 @@ static uint64_t edge(void) {
 #define SPARE 64 /* an output may be longer than it must be */
 
 static uint8_t *state_end, *store_end, *out_end, *told_end, *input_end, *steps_end;
-
-/* The end of so many bytes, with a page behind it that may not be touched. */
-static uint8_t *walled(size_t size) {
-    size_t page = (size_t)sysconf(_SC_PAGESIZE), whole = (size + page - 1) / page * page;
-    uint8_t *all = mmap(NULL, whole + 2 * page, PROT_NONE, MAP_PRIVATE | MAP_ANONYMOUS, -1, 0);
-    if (all == MAP_FAILED || mprotect(all + page, whole, PROT_READ | PROT_WRITE) != 0) {
-        perror("mmap");
-        exit(2);
-    }
-    return all + page + whole;
-}
 
 #define STATE ((barleyrope_state *)(void *)(state_end - sizeof(barleyrope_state)))
 #define STORE (store_end - BARLEYROPE_STORE_SIZE)
@@ -117,7 +89,7 @@ static void as_before(void) {
 enum {
     DEADLINE = 0, LEN = 3, PHASE = 4, ACTIVE = 5, DATED = 6, KIND = 7, MTU_NAMED = 10, HELD = 17, MTU = 19, PENDING = 20, PRESENT = 22,
     NEXT_INDEX = 23, REFUSED_STEPS = 24, NOTIFIED = 25, WAIT_FROM = 26, WAITING = 27, RESULTS = 28, SERVICES = 29,
-    CHARACTERISTICS = 30, NOTIFICATIONS = 31, REPORTS = 32, KEYS = 33, LINKS = 34,
+    CHARACTERISTICS = 30, NOTIFICATIONS = 31, REPORTS = 32, KEYS = 33, LINKS = 34, CLOSED = 35, OPTIONS = 36,
     T_RESULT = 320, T_CHARACTERISTIC = 608, T_NOTIFICATION_AT = 672, T_NOTIFICATION = 704, T_KEY = 928, T_LINK = 1056, T_HEARD = 1088
 };
 
@@ -157,7 +129,7 @@ static const char *const clause_says[CLAUSES] = {
 static bool broken[CLAUSES];
 static unsigned long alone[CLAUSES]; /* states that break it and no other */
 
-static void asks(enum clause which, bool holds) {
+static void must(enum clause which, bool holds) {
     broken[which] = broken[which] || !holds;
 }
 
@@ -167,18 +139,18 @@ static size_t within(uint64_t count, size_t places) {
 }
 
 static void judge_counts(void) {
-    asks(WAITING_SIZE, CORE[WAITING] <= 64);
-    asks(RESULTS_SIZE, CORE[RESULTS] <= 64);
-    asks(SERVICES_SIZE, CORE[SERVICES] <= 32);
-    asks(CHARACTERISTICS_SIZE, CORE[CHARACTERISTICS] <= 64);
-    asks(NOTIFICATIONS_SIZE, CORE[NOTIFICATIONS] <= 32);
-    asks(REPORTS_SIZE, CORE[REPORTS] <= 64);
-    asks(KEYS_SIZE, CORE[KEYS] <= 128);
+    must(WAITING_SIZE, CORE[WAITING] <= 64);
+    must(RESULTS_SIZE, CORE[RESULTS] <= 64);
+    must(SERVICES_SIZE, CORE[SERVICES] <= 32);
+    must(CHARACTERISTICS_SIZE, CORE[CHARACTERISTICS] <= 64);
+    must(NOTIFICATIONS_SIZE, CORE[NOTIFICATIONS] <= 32);
+    must(REPORTS_SIZE, CORE[REPORTS] <= 64);
+    must(KEYS_SIZE, CORE[KEYS] <= 128);
 }
 
 static void judge_step(enum clause length, enum clause names, uint64_t kind, uint64_t len, uint64_t mtu) {
-    asks(length, length_fits(kind, len));
-    asks(names, mtu_fits(kind, mtu));
+    must(length, length_fits(kind, len));
+    must(names, mtu_fits(kind, mtu));
 }
 
 static void judge_tables(void) {
@@ -186,22 +158,28 @@ static void judge_tables(void) {
     for (i = 0; i < within(CORE[WAITING], 64); i++)
         judge_step(VALUE_LENGTHS, MTUS_NAMED, TABLES[i] % 256, (TABLES[i] >> 48) % 256, TABLES[i] >> 48);
     for (i = 0; i < within(CORE[RESULTS], 64); i++)
-        asks(RESULT_LENGTHS, TABLES[T_RESULT + i] >> 56 <= 246);
+        must(RESULT_LENGTHS, TABLES[T_RESULT + i] >> 56 <= 246);
     for (i = 0; i < within(CORE[NOTIFICATIONS], 32); i++) {
-        asks(NOTIFICATION_LENGTHS, TABLES[T_NOTIFICATION + i] >> 56 <= 244);
-        asks(NOTIFICATION_LINKS, TABLES[T_LINK + i] <= CORE[LINKS]);
+        must(NOTIFICATION_LENGTHS, TABLES[T_NOTIFICATION + i] >> 56 <= 244);
+        must(NOTIFICATION_LINKS, TABLES[T_LINK + i] <= CORE[LINKS]);
     }
     for (i = 1; i < within(CORE[CHARACTERISTICS], 64); i++)
-        asks(HANDLES_RISE, TABLES[T_CHARACTERISTIC + i - 1] >> 48 < TABLES[T_CHARACTERISTIC + i] >> 48);
+        must(HANDLES_RISE, TABLES[T_CHARACTERISTIC + i - 1] >> 48 < TABLES[T_CHARACTERISTIC + i] >> 48);
 }
 
 static void judge_running(void) {
-    asks(ONE_RUNS, is_set(ACTIVE) || CORE[WAITING] == 0);
+    must(ONE_RUNS, is_set(ACTIVE) || CORE[WAITING] == 0);
     if (!is_set(ACTIVE))
         return;
     judge_step(RUNNING_LENGTH, RUNNING_MTU, CORE[KIND] % 256, CORE[LEN] % 256, CORE[MTU_NAMED] % 65536);
-    asks(PHASES, CORE[PHASE] % 256 <= 2);
-    asks(DEADLINES, !is_set(DATED) || CORE[DEADLINE] <= EDGE63);
+    must(PHASES, CORE[PHASE] % 256 <= 2);
+    must(DEADLINES, !is_set(DATED) || CORE[DEADLINE] <= EDGE63);
+}
+
+/* A step runs that could send ATT. */
+static bool runs_att(void) {
+    uint64_t kind = CORE[KIND] % 256;
+    return is_set(ACTIVE) && BARLEYROPE_STEP_EXCHANGE_MTU <= kind && kind <= BARLEYROPE_STEP_READ;
 }
 
 static bool is_request(uint64_t pending) {
@@ -209,22 +187,22 @@ static bool is_request(uint64_t pending) {
 }
 
 static void judge_link(void) {
-    uint64_t pending = CORE[PENDING] % 256, mtu = CORE[MTU] % 65536, kind = CORE[KIND] % 256;
+    uint64_t pending = CORE[PENDING] % 256, mtu = CORE[MTU] % 65536;
     if (!is_set(PRESENT))
         return;
-    asks(HELD_SIZE, CORE[HELD] <= 251);
-    asks(LINK_MTU, mtu >= 23 && mtu <= 247);
-    asks(PENDING_OPCODE, pending == 0 || is_request(pending));
-    asks(PENDING_STEP, pending == 0 || (is_set(ACTIVE) && BARLEYROPE_STEP_EXCHANGE_MTU <= kind && kind <= BARLEYROPE_STEP_READ));
+    must(HELD_SIZE, CORE[HELD] <= 251);
+    must(LINK_MTU, mtu >= 23 && mtu <= 247);
+    must(PENDING_OPCODE, pending == 0 || is_request(pending));
+    must(PENDING_STEP, pending == 0 || runs_att());
 }
 
 static void judge_counters(void) {
-    asks(KEPT_NOTIFIED, CORE[NOTIFICATIONS] <= CORE[NOTIFIED]);
-    asks(MOST_NOTIFIED, CORE[NOTIFIED] <= EDGE62);
-    asks(WAITS_FROM, CORE[WAIT_FROM] <= CORE[NOTIFIED]);
-    asks(MOST_REFUSED, CORE[REFUSED_STEPS] <= EDGE62 + 64);
-    asks(INDEXES, CORE[NEXT_INDEX] % 4294967296 + within(CORE[WAITING], 65) <= 4294967295);
-    asks(MOST_LINKS, CORE[LINKS] <= EDGE62);
+    must(KEPT_NOTIFIED, CORE[NOTIFICATIONS] <= CORE[NOTIFIED]);
+    must(MOST_NOTIFIED, CORE[NOTIFIED] <= EDGE62);
+    must(WAITS_FROM, CORE[WAIT_FROM] <= CORE[NOTIFIED]);
+    must(MOST_REFUSED, CORE[REFUSED_STEPS] <= EDGE62 + 64);
+    must(INDEXES, CORE[NEXT_INDEX] % 4294967296 + within(CORE[WAITING], 65) <= 4294967295);
+    must(MOST_LINKS, CORE[LINKS] <= EDGE62);
 }
 
 /* How many clauses the state breaks. */
@@ -253,8 +231,13 @@ static size_t store_size, out_size;
 static uint64_t at, *told;
 static uint64_t now_us;
 
+/* 02, Four: whether the bearer is to be closed behind the call; whether the call may send no request and no command. */
+static bool closed_then, barred_then;
+
 /* Mostly as it should be. */
 static void lend(bool spoil) {
+    closed_then = is_set(CLOSED);
+    barred_then = is_set(OPTIONS) && closed_then && !runs_att(); /* one that began before goes on: no call leaves one */
     store = STORE;
     store_size = BARLEYROPE_STORE_SIZE;
     out_size = BARLEYROPE_OUTPUT_SIZE + (one_in(4) ? SPARE : 0);
@@ -307,6 +290,11 @@ static void refused_by(int refusal, size_t words) {
         as_before();
 }
 
+/* A frame that carries an ATT request or command. */
+static bool asks(const uint8_t *frame) {
+    return frame[2] == 4 && frame[3] == 0 && frame[4] % 2 == 0 && frame[4] != 0x1E;
+}
+
 /* What a call that may send tells of its output. */
 static void sent_well(void) {
     size_t bytes = (size_t)told[2], frames = 0, walked = 0, tail;
@@ -314,6 +302,7 @@ static void sent_well(void) {
     if (told[2] > BARLEYROPE_OUTPUT_SIZE)
         return;
     while (walked + 4 <= bytes) {
+        EXPECT(!(barred_then && asks(out + walked)));
         walked += barleyrope_frame_size(out + walked);
         frames++;
     }
@@ -324,6 +313,7 @@ static void sent_well(void) {
     EXPECT(told[3] == 2 || told[7] == 0);
 }
 
+static unsigned long closings, barred; /* calls that closed a bearer, and calls on a closed one */
 static uint64_t more_links; /* those that the call is to count: an accepted connected call counts one */
 
 /* After a call with this refusal: an accepted one leaves a fit state. */
@@ -337,6 +327,9 @@ static void changed_by(int refusal, bool sends) {
         EXPECT(memcmp(was.out, out_end - sizeof was.out, sizeof was.out) == 0);
     EXPECT(is_fit());
     EXPECT(CORE[LINKS] - was.state.core[LINKS] == more_links);
+    EXPECT(is_set(CLOSED) == closed_then && is_set(OPTIONS) == (was.state.core[OPTIONS] % 2 == 1));
+    closings += closed_then && was.state.core[CLOSED] % 2 == 0;
+    barred += barred_then;
     note();
 }
 
@@ -427,7 +420,10 @@ static void push_steps(bool spoil) {
 
 static void on_timer(void) {
     int refusal = shared_refusal(true, true);
+    bool due = is_set(ACTIVE) && is_set(DATED) && CORE[DEADLINE] <= at, awaited = is_set(PRESENT) && CORE[PENDING] % 256 != 0;
     calling = "on_timer";
+    closed_then = closed_then || (is_set(OPTIONS) && due && runs_att() && awaited);
+    barred_then = is_set(OPTIONS) && closed_then;
     barleyrope_on_timer_words(CORE, TABLES, store, store_size, out, out_size, at, told);
     changed_by(refusal, true);
 }
@@ -439,6 +435,7 @@ static void on_connected(void) {
         refusal = 5;
     barleyrope_on_connected_words(CORE, TABLES, store, store_size, out, out_size, (uint16_t)any(), at, told);
     more_links = 1;
+    closed_then = barred_then = false;
     changed_by(refusal, true);
     more_links = 0;
 }
@@ -602,7 +599,7 @@ static void read_result(void) {
         return;
     for (i = 0; i < CORE[RESULTS]; i++)
         n += TABLES[T_RESULT + i] % 4294967296 == index;
-    EXPECT(told[1] == (n != 0) && told[3] <= 7 && told[4] <= 255 && told[6] <= 246);
+    EXPECT(told[1] == (n != 0) && told[3] <= 8 && told[4] <= 255 && told[6] <= 246);
     inside(told[5], told[6]);
 }
 
@@ -674,9 +671,30 @@ static void report_body(const uint64_t *c, const uint64_t *t, const uint8_t *s, 
     barleyrope_report_body_words(c, t, s, n, i, service.low, service.high, into);
 }
 
+/* The view and the search with no state tell the same of the report's own bytes. */
+static void read_presence(void) {
+    size_t i = one_in(8) ? (size_t)any() : below(66);
+    int refusal = shared_refusal(false, false);
+    barleyrope_uuid service = some_uuid();
+    uint64_t report[12], want[8] = {0};
+    calling = "report_presence";
+    barleyrope_report_presence_words(CORE, TABLES, store, store_size, i, service.low, service.high, told);
+    refused_by(refusal, 8);
+    if (refusal != 0)
+        return;
+    barleyrope_report_words(CORE, TABLES, store, store_size, i, report);
+    if (report[1] == 1) {
+        want[1] = 1;
+        want[2] = barleyrope_service_presence(store + report[6], (size_t)report[7], store + report[9], (size_t)report[10], service.low,
+                                              service.high);
+    }
+    EXPECT(memcmp(told, want, sizeof want) == 0);
+    EXPECT(want[2] <= BARLEYROPE_UNKNOWN);
+}
+
 /* ---- one call of each, in some order ------------------------------------------------------------------------------------------------ */
 
-#define EXPORTS 15
+#define EXPORTS 16
 
 static void call(size_t which, bool spoil) {
     lend(spoil);
@@ -697,12 +715,13 @@ static void call(size_t which, bool spoil) {
     case 11: read_part("report_data", barleyrope_report_data_words); break;
     case 12: read_part("report_response", barleyrope_report_response_words); break;
     case 13: read_part("report_body", report_body); break;
+    case 14: read_presence(); break;
     default: read_passed_on(); break;
     }
 }
 
 static void call_each(void) {
-    size_t i, first = below(EXPORTS), stride = (size_t)1 << below(3); /* 1, 2 or 4: none shares a divisor with 15 */
+    size_t i, first = below(EXPORTS), stride = 1 + 2 * below(3); /* 1, 3 or 5: none shares a divisor with 16 */
     for (i = 0; i < EXPORTS; i++)
         call((first + i * stride) % EXPORTS, true);
     calling = "all of them";
@@ -790,6 +809,8 @@ static void damage_one_word(void) {
         rename_one();
     else if (one_in(16))
         aim();
+    else if (one_in(8)) /* the mode, and whether the bearer is closed */
+        CORE[OPTIONS] = any(), CORE[CLOSED] = any();
     else if (i < BARLEYROPE_TABLE_WORDS)
         TABLES[i] = damaged(TABLES[i]);
     else
@@ -836,7 +857,7 @@ static void crowd(void) {
 static void refresh(size_t i) {
     load(i);
     if (one_in(8)) {
-        memset(STATE, 0, sizeof *STATE);
+        barleyrope_fresh_with(STATE, any());
         now_us = below(1000000);
         if (one_in(2))
             crowd();
@@ -858,7 +879,7 @@ int main(int argc, char **argv) {
     for (i = 0; i < 4; i++)
         known[i] = barleyrope_short_uuid((uint32_t)(0x2800 + i));
     for (i = 0; i < GOOD; i++) {
-        memset(STATE, 0, sizeof *STATE);
+        barleyrope_fresh_with(STATE, i); /* strict every other time */
         now_us = 0;
         play(100);
         save(i);
@@ -874,7 +895,7 @@ int main(int argc, char **argv) {
            by_refusal[0]);
     for (i = 1; i < 9; i++)
         printf("%s by %u: %lu", i == 1 ? "" : ",", (unsigned)i, by_refusal[i]);
-    printf("; %lu notifications told that a wait passed on\n", passed_on);
+    printf("; %lu notifications told that a wait passed on; %lu calls that closed a bearer, %lu on a closed one\n", passed_on, closings, barred);
     puts("states that break one clause of fit and no other, each refused by 1 by every export:");
     calling = "no call";
     for (i = 0; i < CLAUSES; i++) {

@@ -1,3 +1,5 @@
 pub mod Lists
 pub mod Structures
+pub mod Stops
+pub mod Seeks
 pub mod Searches

@@ -1,72 +1,33 @@
--- What a search from a place on finds.
-use Prim.Native.Nat.{ℕ, _+_, _-_, _≤_, _<_}
-use mathlib.Core.Path.{_≡_, refl, sym, _∙_}
-use mathlib.Core.Bool.{Bool, true, false, _&&_, _||_, and-false}
+-- What the answer of a search says.
+use Prim.Native.Nat.{ℕ, _+_, _≤_}
+use mathlib.Core.Path.{_≡_, refl}
+use mathlib.Core.Bool.{Bool, true, false, _||_}
 use mathlib.Core.List.{List, [], _∷_}
 use native.Mathlib.Omega.{arith}
-use lib.ListN.{length, take, drop, getD}
-use lib.Dec.{eqb, ltb}
-use borrow.Author.Tests.{lt-ltb, le-ltb}
-use Rattle.bytes.specs.Choice.{pick, among}
-use Rattle.adv_data.specs.Ad.{Ad, structures, widthOf, uuidOf, uuids, lists, anyLists, Found, One, None, listing, placeOf, listedPlace}
+use lib.ListN.{length, take, drop}
+use Rattle.bytes.specs.Choice.{pick}
+use Rattle.adv_data.specs.Ad.{Ad, structures, lists, anyLists, Found, One, None, listing, placeOf, listedPlace}
+use Rattle.adv_data.specs.Answers.{answer, maybeMore, soughtIn}
 use Rattle.adv_data.specs.declared.Place.{Place}
 use Rattle.adv_data.specs.declared.Place.the-variants.{Body, Nothing}
-use Rattle.adv_data.proofs.Lists.{part, among-here, among-later, among-stop}
-use Rattle.adv_data.proofs.Structures.{readAt, read-zero, read-past, read-here, body-length, Lies, AllLie, all-lie}
+use Rattle.adv_data.specs.declared.Sought.{Sought}
+use Rattle.adv_data.specs.declared.Sought.the-variants.{Listed, Absent, Unknown}
+use Rattle.adv_data.proofs.Structures.{Lies, AllLie, all-lie}
 
--- what a search from at finds
-abbrev pub from : ℕ → ℕ → List ℕ → Place
-from u at s = placeOf (listing u (readAt at s))
+-- where the answer says that the body stands
+abbrev pub placeSought : Sought → Place
+placeSought (Listed b n) = Body b n
+placeSought Absent = Nothing
+placeSought Unknown = Nothing
 
-placed : (t : Bool) (a : Ad) (f : Found) → placeOf (pick t (One a) f) ≡ pick t (Body (a .start) (length (a .body))) (placeOf f)
-placed true a f = refl
-placed false a f = refl
+place-by : (f : Found) (more : Bool) → placeSought (answer f more) ≡ placeOf f
+place-by (One a) more = refl
+place-by None true = refl
+place-by None false = refl
 
-module _ (u at : ℕ) (s : List ℕ) where
-  pub stop-zero : getD s at 0 ≡ 0 → from u at s ≡ Nothing
-  unfolding listing
-  stop-zero h = rw (read-zero at s h)
-
-  pub stop-past : length s - at ≤ getD s at 0 → from u at s ≡ Nothing
-  unfolding listing
-  stop-past h = rw (read-past at s h)
-
--- whether the UUIDs of w bytes from i up to e have u among them
-abbrev pub rest : ℕ → List ℕ → ℕ → ℕ → ℕ → Bool
-rest u s w i e = among u (uuids w (part s i e))
-
--- a structure of length n stands at at, and w is the width of its kind
-module _ (u at : ℕ) (s : List ℕ) (n : ℕ) (is : n ≡ getD s at 0) (not-zero : n ≡ 0 → ⊥) (fits : n < length s - at) (w : ℕ) (is-w : w ≡ widthOf (getD s (at + 1) 0)) where
-  abbrev next : ℕ
-  next = at + 1 + n
-
-  here : from u at s ≡ pick (ltb 0 w && rest u s w (at + 2) next) (Body (at + 2) (n - 1)) (from u next s)
-  unfolding listing
-  here =
-      let some : 0 < n = omega arith in
-      rw (is-w, read-here at s n is some fits, placed, body-length at s n is some fits)
-
-  -- it lists nothing
-  pub list-none : w ≤ 0 → (next ≤ length s) × (from u at s ≡ from u next s)
-  list-none h = (omega arith, here ∙ rw (le-ltb 0 w h))
-
-  -- its list has come to an end without u
-  pub list-done : (i : ℕ) → next - i < w → rest u s w i next ≡ rest u s w (at + 2) next → (next ≤ length s) × (from u at s ≡ from u next s)
-  list-done i h e =
-      let z : rest u s w (at + 2) next ≡ false = sym e ∙ among-stop s i next (omega arith) u w h in
-      (omega arith, here ∙ rw (z, and-false (ltb 0 w)))
-
-  -- r is whether the UUID at i is u
-  module _ (i : ℕ) (r : Bool) (some : 0 < w) (low : i ≤ next) (room : w ≤ next - i) (is-r : r ≡ eqb (uuidOf w (take w (drop i s))) u) where
-    pub list-later : r ≡ false → (i + w ≤ next) × (rest u s w i next ≡ rest u s w (i + w) next)
-    list-later h = (omega arith, among-later s i next (omega arith) u w r some (omega arith) is-r h)
-
-    pub list-here : r ≡ true → rest u s w i next ≡ rest u s w (at + 2) next → from u at s ≡ Body (at + 2) (n - 1)
-    list-here h e =
-        let z : rest u s w (at + 2) next ≡ true = sym e ∙ among-here s i next (omega arith) u w r some (omega arith) is-r h in
-        here ∙ rw (lt-ltb 0 w some, z)
-
--- ---- what the answer says
+-- listed exactly where the base's search finds it (02, Five: Connect matching goes on listed alone)
+pub listed-where-found : (u : ℕ) (s : List ℕ) → placeSought (soughtIn u s) ≡ listedPlace u s
+listed-where-found u s = place-by (listing u (structures s)) (maybeMore s)
 
 -- some structure lists u where the search finds one
 abbrev pub isBody : Place → Bool

@@ -40,35 +40,35 @@ unfolding reading
 reading-one f at s h = rw h
 
 module _ (at : ℕ) (s : List ℕ) where
-  byte : getD (drop at s) 0 0 ≡ getD s at 0
-  byte = getD-drop at s 0 0 ∙ ap (λ (k : ℕ). getD s k 0) (add-zero at)
+  pub byte-at : getD (drop at s) 0 0 ≡ getD s at 0
+  byte-at = getD-drop at s 0 0 ∙ ap (λ (k : ℕ). getD s k 0) (add-zero at)
 
   read-one : whole (drop at s) ≡ true → readAt at s ≡ first at (drop at s) ∷ readAt (at + (1 + getD s at 0)) s
   read-one h =
       let t = drop at s in
       let k = at + (1 + getD s at 0) in
-      let d : drop (1 + getD t 0 0) t ≡ drop k s = ap (λ (j : ℕ). drop (1 + j) t) byte ∙ drop-drop (1 + getD s at 0) at s in
+      let d : drop (1 + getD t 0 0) t ≡ drop k s = ap (λ (j : ℕ). drop (1 + j) t) byte-at ∙ drop-drop (1 + getD s at 0) at s in
       let rest : reading (length t) (at + (1 + getD t 0 0)) (drop (1 + getD t 0 0) t) ≡ reading (length (drop k s)) k (drop k s)
-      = rw (d, byte) (reading-enough (length t) (length (drop k s)) k (drop k s) (simp length-drop (omega arith)) (omega arith)) in
+      = rw (d, byte-at) (reading-enough (length t) (length (drop k s)) k (drop k s) (simp length-drop (omega arith)) (omega arith)) in
       reading-enough (length t) (suc (length t)) at t (omega arith) (omega arith)
       ∙ reading-one (length t) at t h
       ∙ ap (λ (l : List Ad). first at t ∷ l) rest
 
   -- a length of zero, and one that runs past the end
   pub read-zero : getD s at 0 ≡ 0 → readAt at s ≡ []
-  read-zero h = reading-none (length (drop at s)) at (drop at s) (rw (byte, h))
+  read-zero h = reading-none (length (drop at s)) at (drop at s) (rw (byte-at, h))
 
   pub read-past : length s - at ≤ getD s at 0 → readAt at s ≡ []
-  read-past h = reading-none (length (drop at s)) at (drop at s) (rw (byte, length-drop, le-ltb _ _ h) (and-false (ltb 0 (getD s at 0))))
+  read-past h = reading-none (length (drop at s)) at (drop at s) (rw (byte-at, length-drop, le-ltb _ _ h) (and-false (ltb 0 (getD s at 0))))
 
   module _ (n : ℕ) (is : n ≡ getD s at 0) (some : 0 < n) (fits : n < length s - at) where
     whole-here : whole (drop at s) ≡ true
-    whole-here = rw (byte, length-drop, ← is, lt-ltb 0 n some, lt-ltb n (length s - at) fits)
+    whole-here = rw (byte-at, length-drop, ← is, lt-ltb 0 n some, lt-ltb n (length s - at) fits)
 
     body-here : first at (drop at s) .body ≡ part s (at + 2) (at + 1 + n)
     body-here =
         let q : at + 1 + n - (at + 2) ≡ n - 1 = omega arith in
-        rw (byte, ← is, q, drop-drop 2 at s)
+        rw (byte-at, ← is, q, drop-drop 2 at s)
 
     pub body-length : length (part s (at + 2) (at + 1 + n)) ≡ n - 1
     body-length = part-length s (at + 2) (at + 1 + n) (omega arith) ∙ omega arith

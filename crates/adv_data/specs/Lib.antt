@@ -1,2 +1,3 @@
 pub mod Ad
+pub mod Answers
 pub mod Body

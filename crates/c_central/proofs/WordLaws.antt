@@ -63,6 +63,8 @@ emptied-core w =
       other w 32 (λ e. omega arith),
       other w 33 (λ e. omega arith),
       other w 34 (λ e. omega arith),
+      other w 35 (λ e. omega arith),
+      other w 36 (λ e. omega arith),
     )
 
 -- by whether the frame was too long

@@ -4,18 +4,20 @@ ghost use mathlib.Core.Path.{_≡_};
 ghost use lib.ListN.{length};
 ghost use Rattle.adv_reports.specs.Key.{addressOf};
 ghost use Rattle.uuid.specs.Value.{num};
+ghost use Rattle.state.specs.Fresh.{freshWith};
 ghost use Rattle.script_rules.specs.Batch.{pushSteps};
 ghost use Rattle.script_rules.specs.Events.{onTimer, onConnected, onDisconnected};
 ghost use Rattle.link_rules.specs.Link.{onFragment};
 ghost use Rattle.radio_rules.specs.Hearing.{adv, advertised, scanResponded};
 ghost use Rattle.radio_sights.specs.View.{view};
+ghost use Rattle.radio_views.specs.Presences.{presenceSeen};
 ghost use Rattle.radio_views.specs.Spots.{dataSeen, responseSeen, bodySpot};
 ghost use Rattle.state_core.specs.Reading.{central};
 ghost use Rattle.state_readers.specs.Readers.{timer, handle, result, passedOn};
-ghost use Rattle.c_core.specs.Layout.{coreIn};
+ghost use Rattle.c_core.specs.Layout.{optionsIn, coreIn};
 ghost use Rattle.c_steps.specs.Steps.{batchIn};
 ghost use Rattle.c_told.specs.Told.{answerWords, refusalWords, advertisedWords};
-ghost use Rattle.c_told.specs.Read.{timerWords, handleWords, givenWords, passedWords, seenWords, spotWords};
+ghost use Rattle.c_told.specs.Read.{timerWords, handleWords, givenWords, passedWords, seenWords, spotWords, sightingWords};
 ghost use Rattle.c_central.specs.After.{outcome, quiet, heard, Answered, Refused, Acted, Given, GivenFragment, Kept, KeptFragment, KeptQuietly};
 use central_answers::Answer;
 use central_answers::QuietAnswer;
@@ -28,7 +30,7 @@ use uuid::Uuid;
 // ---- an answer in words
 
 // The core's words stay, if the call was refused.
-fn give_core(core: &mut [u64; 35], refusal: u8, next: Core)
+fn give_core(core: &mut [u64; 37], refusal: u8, next: Core)
     ensures { λ _. ⌜ Given refusal next (now (core .entry)) (now (core .exit)) ⌝ }
 {
     if refusal == refusal::ACCEPTED {
@@ -36,7 +38,7 @@ fn give_core(core: &mut [u64; 35], refusal: u8, next: Core)
     }
 }
 
-fn give(core: &mut [u64; 35], told: &mut [u64; 8], a: Answer)
+fn give(core: &mut [u64; 37], told: &mut [u64; 8], a: Answer)
     ensures { λ _. ⌜ (now (told .exit) ≡ answerWords (a .refusal) (a .sent)) × Given (a .refusal) (a .core) (now (core .entry)) (now (core .exit)) ⌝ }
 {
     let refusal = a.refusal;
@@ -47,7 +49,7 @@ fn give(core: &mut [u64; 35], told: &mut [u64; 8], a: Answer)
 }
 
 // A fragment that makes its frame too long is refused, and what is held of the frame is emptied.
-fn give_fragment(core: &mut [u64; 35], told: &mut [u64; 8], a: Answer)
+fn give_fragment(core: &mut [u64; 37], told: &mut [u64; 8], a: Answer)
     ensures { λ _. ⌜ (now (told .exit) ≡ answerWords (a .refusal) (a .sent)) × GivenFragment (a .refusal) (a .core) (now (core .entry)) (now (core .exit)) ⌝ }
 {
     let refusal = a.refusal;
@@ -61,7 +63,7 @@ fn give_fragment(core: &mut [u64; 35], told: &mut [u64; 8], a: Answer)
     give_core(core, refusal, next);
 }
 
-fn give_quietly(core: &mut [u64; 35], told: &mut [u64; 8], a: QuietAnswer)
+fn give_quietly(core: &mut [u64; 37], told: &mut [u64; 8], a: QuietAnswer)
     ensures { λ _. ⌜ (now (told .exit) ≡ refusalWords (a .refusal)) × Given (a .refusal) (a .core) (now (core .entry)) (now (core .exit)) ⌝ }
 {
     let refusal = a.refusal;
@@ -70,7 +72,7 @@ fn give_quietly(core: &mut [u64; 35], told: &mut [u64; 8], a: QuietAnswer)
     give_core(core, refusal, next);
 }
 
-fn give_action(core: &mut [u64; 35], told: &mut [u64; 8], a: Advertised)
+fn give_action(core: &mut [u64; 37], told: &mut [u64; 8], a: Advertised)
     ensures { λ _. ⌜ (now (told .exit) ≡ advertisedWords (a .refusal) (a .action)) × Given (a .refusal) (a .core) (now (core .entry)) (now (core .exit)) ⌝ }
 {
     let refusal = a.refusal;
@@ -80,12 +82,28 @@ fn give_action(core: &mut [u64; 35], told: &mut [u64; 8], a: Advertised)
     give_core(core, refusal, next);
 }
 
+// ---- a fresh state
+
+// The state before the first call, with the options that a word says: bit 0 is strict.
+#[no_mangle]
+pub extern "C" fn barleyrope_fresh_with_words(
+    core: &mut [u64; 37],
+    tables: &mut [u64; 1152],
+    options: u64,
+)
+    ensures { λ _. ⌜ central (coreIn (now (core .exit))) (now (tables .exit)) ≡ freshWith (optionsIn options) ⌝ }
+{
+    *core = [0u64; 37];
+    core[c_core::OPTIONS] = options;
+    *tables = [0u64; 1152];
+}
+
 // ---- the script and the link. What they tell: refusal, frames and bytes sent, request to the link and its numbers
 
 // A batch of count steps, 12 words each, whose values stand in the lent bytes.
 #[no_mangle]
 pub extern "C" fn barleyrope_push_steps_words(
-    core: &mut [u64; 35],
+    core: &mut [u64; 37],
     tables: &mut [u64; 1152],
     store: &mut [u8],
     out: &mut [u8],
@@ -109,7 +127,7 @@ pub extern "C" fn barleyrope_push_steps_words(
 // The clock reached a time.
 #[no_mangle]
 pub extern "C" fn barleyrope_on_timer_words(
-    core: &mut [u64; 35],
+    core: &mut [u64; 37],
     tables: &mut [u64; 1152],
     store: &mut [u8],
     out: &mut [u8],
@@ -129,7 +147,7 @@ pub extern "C" fn barleyrope_on_timer_words(
 // There is a new link, by this handle.
 #[no_mangle]
 pub extern "C" fn barleyrope_on_connected_words(
-    core: &mut [u64; 35],
+    core: &mut [u64; 37],
     tables: &mut [u64; 1152],
     store: &mut [u8],
     out: &mut [u8],
@@ -150,7 +168,7 @@ pub extern "C" fn barleyrope_on_connected_words(
 // A fragment of a frame comes in: it begins one, or goes on with what is held.
 #[no_mangle]
 pub extern "C" fn barleyrope_on_fragment_words(
-    core: &mut [u64; 35],
+    core: &mut [u64; 37],
     tables: &mut [u64; 1152],
     store: &mut [u8],
     out: &mut [u8],
@@ -172,7 +190,7 @@ pub extern "C" fn barleyrope_on_fragment_words(
 // There is no link any more. It tells its refusal alone.
 #[no_mangle]
 pub extern "C" fn barleyrope_on_disconnected_words(
-    core: &mut [u64; 35],
+    core: &mut [u64; 37],
     tables: &mut [u64; 1152],
     store: &mut [u8],
     at: u64,
@@ -193,7 +211,7 @@ pub extern "C" fn barleyrope_on_disconnected_words(
 // An advertisement. It tells: refusal, action, interval, latency, timeout.
 #[no_mangle]
 pub extern "C" fn barleyrope_on_advertising_words(
-    core: &mut [u64; 35],
+    core: &mut [u64; 37],
     tables: &mut [u64; 1152],
     store: &mut [u8],
     at: u64,
@@ -228,7 +246,7 @@ pub extern "C" fn barleyrope_on_advertising_words(
 // A scan response. It tells its refusal alone.
 #[no_mangle]
 pub extern "C" fn barleyrope_on_scan_response_words(
-    core: &mut [u64; 35],
+    core: &mut [u64; 37],
     tables: &mut [u64; 1152],
     store: &mut [u8],
     at: u64,
@@ -252,7 +270,7 @@ pub extern "C" fn barleyrope_on_scan_response_words(
 // When the running step is to be ended by a timer call.
 #[no_mangle]
 pub extern "C" fn barleyrope_timer_us_words(
-    core: &[u64; 35],
+    core: &[u64; 37],
     tables: &[u64; 1152],
     store: &[u8],
     told: &mut [u64; 8],
@@ -266,7 +284,7 @@ pub extern "C" fn barleyrope_timer_us_words(
 // The handle of the link.
 #[no_mangle]
 pub extern "C" fn barleyrope_connected_handle_words(
-    core: &[u64; 35],
+    core: &[u64; 37],
     tables: &[u64; 1152],
     store: &[u8],
     told: &mut [u64; 8],
@@ -280,7 +298,7 @@ pub extern "C" fn barleyrope_connected_handle_words(
 // The kept result of an index: time, status, ATT error code, place and length of its value.
 #[no_mangle]
 pub extern "C" fn barleyrope_result_words(
-    core: &[u64; 35],
+    core: &[u64; 37],
     tables: &[u64; 1152],
     store: &[u8],
     index: u32,
@@ -295,7 +313,7 @@ pub extern "C" fn barleyrope_result_words(
 // The notification that the kept result of an index names: time, link, handle, whether it is an indication, place and length of its value.
 #[no_mangle]
 pub extern "C" fn barleyrope_passed_on_words(
-    core: &[u64; 35],
+    core: &[u64; 37],
     tables: &[u64; 1152],
     store: &[u8],
     index: u32,
@@ -310,7 +328,7 @@ pub extern "C" fn barleyrope_passed_on_words(
 // Report i: time, channel, PDU type, address, place and length of its data, whether it has a scan response, its place and length.
 #[no_mangle]
 pub extern "C" fn barleyrope_report_words(
-    core: &[u64; 35],
+    core: &[u64; 37],
     tables: &[u64; 1152],
     store: &[u8],
     i: usize,
@@ -325,7 +343,7 @@ pub extern "C" fn barleyrope_report_words(
 // Where the advertising data of report i stands in the store.
 #[no_mangle]
 pub extern "C" fn barleyrope_report_data_words(
-    core: &[u64; 35],
+    core: &[u64; 37],
     tables: &[u64; 1152],
     store: &[u8],
     i: usize,
@@ -340,7 +358,7 @@ pub extern "C" fn barleyrope_report_data_words(
 // Where the scan response of report i stands in the store.
 #[no_mangle]
 pub extern "C" fn barleyrope_report_response_words(
-    core: &[u64; 35],
+    core: &[u64; 37],
     tables: &[u64; 1152],
     store: &[u8],
     i: usize,
@@ -355,7 +373,7 @@ pub extern "C" fn barleyrope_report_response_words(
 // Where the body of the structure of report i stands that lists the service, of its data or else of its scan response.
 #[no_mangle]
 pub extern "C" fn barleyrope_report_body_words(
-    core: &[u64; 35],
+    core: &[u64; 37],
     tables: &[u64; 1152],
     store: &[u8],
     i: usize,
@@ -374,4 +392,23 @@ pub extern "C" fn barleyrope_report_body_words(
         i,
         Uuid { low, high },
     ));
+}
+
+// What report i tells of a service, by its data and its scan response: 0 absent, 1 listed, 2 unknown.
+#[no_mangle]
+pub extern "C" fn barleyrope_report_presence_words(
+    core: &[u64; 37],
+    tables: &[u64; 1152],
+    store: &[u8],
+    i: usize,
+    low: u64,
+    high: u64,
+    told: &mut [u64; 8],
+)
+    ensures { λ _. ⌜ now (told .exit) ≡ sightingWords (presenceSeen (num (record { low = low; high = high })) (now (store .entry))
+        (view (central (coreIn (now (core .entry))) (now (tables .entry))) (length (now (store .entry))) i)) ⌝ }
+{
+    let c = c_core::decode(core);
+    let service = Uuid { high, low };
+    *told = c_told::sighting_words(radio_views::report_presence(c, tables, store, i, service));
 }

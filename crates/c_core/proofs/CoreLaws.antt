@@ -2,13 +2,14 @@
 use Prim.Native.Nat.{ℕ, _%_}
 use mathlib.Core.Path.{_≡_, refl, ap, _∙_}
 use mathlib.Core.List.{List}
-use lib.ListN.{getD, replicate}
+use lib.ListN.{getD, set, replicate}
+use Rattle.state.specs.Fresh.{noOptions}
 use Rattle.state.specs.declared.Running.{Running}
 use Rattle.words.specs.declared.Flat.{Flat}
 use Rattle.words.specs.Words.{two16, two32, stepOf}
 use Rattle.state_core.specs.declared.Core.{Core}
-use Rattle.c_core.specs.Fresh.{freshCore}
-use Rattle.c_core.specs.Layout.{coreSize, flagIn, flatIn, runningIn, bearerIn, countersIn, countsIn, coreIn}
+use Rattle.state_core.specs.Fresh.{freshCore}
+use Rattle.c_core.specs.Layout.{coreSize, flagIn, flatIn, runningIn, bearerIn, countersIn, countsIn, optionsIn, coreIn}
 
 -- ---- words that say a core
 
@@ -34,15 +35,19 @@ pub core-law : (w : List ℕ) (c : Core) (f : Flat) → stepOf f ≡ c .running 
     → getD w 10 0 % two16 ≡ f .size → getD w 11 0 ≡ f .uuid .low → getD w 12 0 ≡ f .uuid .high → getD w 13 0 % 256 ≡ f .aim
     → getD w 14 0 % two16 ≡ f .latency → getD w 15 0 % two16 ≡ f .timeout → getD w 16 0 % two16 ≡ f .interval
     → bearerIn w ≡ c .bearer → countersIn w ≡ c .counters → countsIn w ≡ c .counts
-    → getD w 32 0 ≡ c .reports → getD w 33 0 ≡ c .«key_count»
+    → getD w 32 0 ≡ c .reports → getD w 33 0 ≡ c .«key_count» → flagIn (getD w 36 0) ≡ c .options .strict
     → coreIn w ≡ c
 unfolding coreIn
-core-law w c f s e₀ e₁ e₂ e₃ e₄ e₅ e₆ e₇ e₈ e₉ e₁₀ e₁₁ e₁₂ e₁₃ e₁₄ e₁₅ e₁₆ b k n r q =
+core-law w c f s e₀ e₁ e₂ e₃ e₄ e₅ e₆ e₇ e₈ e₉ e₁₀ e₁₁ e₁₂ e₁₃ e₁₄ e₁₅ e₁₆ b k n r q o =
     let step : stepOf (flatIn w) ≡ c .running .step = ap stepOf (flat-law w f e₇ e₈ e₉ e₁₀ e₁₁ e₁₂ e₁₃ e₁₄ e₁₅ e₁₆) ∙ s in
-    rw (running-law w (c .running) step e₀ e₁ e₂ e₃ e₄ e₅ e₆, b, k, n, r, q)
+    rw (running-law w (c .running) step e₀ e₁ e₂ e₃ e₄ e₅ e₆, b, k, n, r, q, o)
 
--- ---- words that are all 0
+-- ---- words that are all 0, and all 0 but for the options
 
-pub fresh-core : coreIn (replicate coreSize 0) ≡ freshCore
+pub fresh-core : coreIn (replicate coreSize 0) ≡ freshCore noOptions
 unfolding coreIn stepOf
 fresh-core = refl
+
+pub fresh-core-with : (x : ℕ) → coreIn (set (replicate coreSize 0) 36 x) ≡ freshCore (optionsIn x)
+unfolding coreIn stepOf
+fresh-core-with x = refl

@@ -1,4 +1,4 @@
--- The core that 35 words say, one field a word. Every word says something: a field is the low bits of its word, a flag the lowest, and fit judges the rest.
+-- The core that 37 words say, one field a word. Every word says something: a field is the low bits of its word, a flag the lowest, and fit judges the rest.
 use Prim.Native.Nat.{ℕ, _%_}
 use mathlib.Core.Bool.{Bool}
 use mathlib.Core.List.{List}
@@ -8,13 +8,14 @@ use Rattle.state.specs.declared.Running.{Running}
 use Rattle.state.specs.declared.Bearer.{Bearer}
 use Rattle.state.specs.declared.Counters.{Counters}
 use Rattle.state.specs.declared.Counts.{Counts}
+use Rattle.state.specs.declared.Options.{Options}
 use Rattle.words.specs.declared.Flat.{Flat}
 use Rattle.words.specs.Words.{two16, two32, stepOf}
 use Rattle.state_core.specs.declared.Core.{Core}
 
 -- how many words there are
 abbrev pub coreSize : ℕ
-coreSize = 35
+coreSize = 37
 
 abbrev pub flagIn : ℕ → Bool
 flagIn x = eqb (x % 2) 1
@@ -50,7 +51,7 @@ runningIn w =
       dated = flagIn (getD w 6 0);
     }
 
--- ---- words 17 to 22
+-- ---- words 17 to 22, and 35
 
 abbrev pub bearerIn : List ℕ → Bearer
 bearerIn w =
@@ -58,6 +59,7 @@ bearerIn w =
       held = getD w 17 0;
       link = record { handle = getD w 18 0 % two16; mtu = getD w 19 0 % two16; pending = getD w 20 0 % 256; terminating = flagIn (getD w 21 0) };
       present = flagIn (getD w 22 0);
+      closed = flagIn (getD w 35 0);
     }
 
 -- ---- words 23 to 26, and 34
@@ -72,6 +74,11 @@ abbrev pub countsIn : List ℕ → Counts
 countsIn w =
     record { waiting = getD w 27 0; results = getD w 28 0; services = getD w 29 0; characteristics = getD w 30 0; notifications = getD w 31 0 }
 
+-- ---- word 36, one bit an option: the lowest is strict
+
+abbrev pub optionsIn : ℕ → Options
+optionsIn x = record { strict = flagIn x }
+
 -- ---- all; words 32 and 33 are how many reports and asked advertisers there are
 
 unfoldable pub coreIn : List ℕ → Core
@@ -83,4 +90,5 @@ coreIn w =
       counts = countsIn w;
       reports = getD w 32 0;
       «key_count» = getD w 33 0;
+      options = optionsIn (getD w 36 0);
     }

@@ -2,11 +2,12 @@
 ghost use mathlib.Core.Path.{_≡_};
 ghost use Prim.Native.Nat.{_%_};
 ghost use Rattle.words.specs.Words.{two16, two32};
-ghost use Rattle.c_core.specs.Layout.{flagIn, flatIn, runningIn, bearerIn, countersIn, countsIn, coreIn};
+ghost use Rattle.c_core.specs.Layout.{flagIn, flatIn, runningIn, bearerIn, countersIn, countsIn, optionsIn, coreIn};
 use state::Bearer;
 use state::Counters;
 use state::Counts;
 use state::Link;
+use state::Options;
 use state::Running;
 use state_core::Core;
 use time::Micros;
@@ -15,7 +16,7 @@ use uuid::Uuid;
 use words::Flat;
 
 // All words of a core.
-pub const SIZE: usize = 35;
+pub const SIZE: usize = 37;
 
 // The running step: its deadline, its number, how far it is, the length of its value, and whether it is there and dated.
 pub const DEADLINE: usize = 0;
@@ -91,8 +92,12 @@ pub const REPORTS: usize = 32;
 
 pub const KEY_COUNT: usize = 33;
 
-// A counter that came later, behind all others.
+// What came later stands behind all others: a counter, the link's closed flag, and the options, one bit each.
 pub const LINKS: usize = 34;
+
+pub const CLOSED: usize = 35;
+
+pub const OPTIONS: usize = 36;
 
 // How many numbers 8, 16 and 32 bits have.
 pub const IN_8_BITS: u64 = 256;
@@ -103,7 +108,7 @@ pub const IN_32_BITS: u64 = 4_294_967_296;
 
 // ---- the parts from their words
 
-fn flat_in(w: &[u64; 35]) -> Flat
+fn flat_in(w: &[u64; 37]) -> Flat
     ensures { λ r. ⌜ r ≡ flatIn (now (w .entry)) ⌝ }
 {
     let kind = (w[KIND] % IN_8_BITS) as u8;
@@ -129,7 +134,7 @@ fn flat_in(w: &[u64; 35]) -> Flat
     }
 }
 
-fn running_in(w: &[u64; 35]) -> Running
+fn running_in(w: &[u64; 37]) -> Running
     ensures { λ r. ⌜ r ≡ runningIn (now (w .entry)) ⌝ }
 {
     let f = flat_in(w);
@@ -153,7 +158,7 @@ fn running_in(w: &[u64; 35]) -> Running
     }
 }
 
-fn bearer_in(w: &[u64; 35]) -> Bearer
+fn bearer_in(w: &[u64; 37]) -> Bearer
     ensures { λ r. ⌜ r ≡ bearerIn (now (w .entry)) ⌝ }
 {
     let held = w[HELD] as usize;
@@ -162,6 +167,7 @@ fn bearer_in(w: &[u64; 35]) -> Bearer
     let pending = (w[PENDING] % IN_8_BITS) as u8;
     let terminating = w[TERMINATING] % 2 == 1;
     let present = w[PRESENT] % 2 == 1;
+    let closed = w[CLOSED] % 2 == 1;
     Bearer {
         held,
         link: Link {
@@ -171,10 +177,11 @@ fn bearer_in(w: &[u64; 35]) -> Bearer
             terminating,
         },
         present,
+        closed,
     }
 }
 
-fn counters_in(w: &[u64; 35]) -> Counters
+fn counters_in(w: &[u64; 37]) -> Counters
     ensures { λ r. ⌜ r ≡ countersIn (now (w .entry)) ⌝ }
 {
     let next_index = (w[NEXT_INDEX] % IN_32_BITS) as u32;
@@ -191,7 +198,7 @@ fn counters_in(w: &[u64; 35]) -> Counters
     }
 }
 
-fn counts_in(w: &[u64; 35]) -> Counts
+fn counts_in(w: &[u64; 37]) -> Counts
     ensures { λ r. ⌜ r ≡ countsIn (now (w .entry)) ⌝ }
 {
     let waiting = w[WAITING] as usize;
@@ -208,8 +215,16 @@ fn counts_in(w: &[u64; 35]) -> Counts
     }
 }
 
+// The options that a word says: bit 0 is strict.
+pub fn options_of(word: u64) -> Options
+    ensures { λ r. ⌜ r ≡ optionsIn word ⌝ }
+{
+    let strict = word % 2 == 1;
+    Options { strict }
+}
+
 // The core that the words say.
-pub fn decode(w: &[u64; 35]) -> Core
+pub fn decode(w: &[u64; 37]) -> Core
     ensures { λ r. ⌜ r ≡ coreIn (now (w .entry)) ⌝ }
 {
     let running = running_in(w);
@@ -218,6 +233,7 @@ pub fn decode(w: &[u64; 35]) -> Core
     let counts = counts_in(w);
     let reports = w[REPORTS] as usize;
     let key_count = w[KEY_COUNT] as usize;
+    let options = options_of(w[OPTIONS]);
     Core {
         running,
         bearer,
@@ -225,6 +241,7 @@ pub fn decode(w: &[u64; 35]) -> Core
         counts,
         reports,
         key_count,
+        options,
     }
 }
 
@@ -258,7 +275,7 @@ fn bit(x: bool) -> u64
 }
 
 // Words that say the core.
-pub fn encode(core: &mut [u64; 35], c: Core)
+pub fn encode(core: &mut [u64; 37], c: Core)
     ensures { λ _. ⌜ coreIn (now (core .exit)) ≡ c ⌝ }
 {
     let r = c.running;
@@ -272,6 +289,7 @@ pub fn encode(core: &mut [u64; 35], c: Core)
     let link = b.link;
     let k = c.counters;
     let n = c.counts;
+    let o = c.options;
     *core = [
         at.0,
         long(r.index),
@@ -308,5 +326,7 @@ pub fn encode(core: &mut [u64; 35], c: Core)
         c.reports as u64,
         c.key_count as u64,
         k.links,
+        bit(b.closed),
+        bit(o.strict),
     ];
 }

@@ -7,6 +7,9 @@ use Rattle.radio_sights.specs.declared.Response.the-variants as response
 use Rattle.radio_sights.specs.declared.Seen.{Seen}
 use Rattle.radio_sights.specs.declared.Seen.the-variants as seen
 use Rattle.radio_sights.specs.View.{spanOf}
+use Rattle.adv_presence.specs.Presences.{presenceNumber}
+use Rattle.radio_views.specs.declared.Sighting.{Sighting}
+use Rattle.radio_views.specs.declared.Sighting.the-variants as sighting
 use Rattle.radio_views.specs.declared.Spot.{Spot}
 use Rattle.radio_views.specs.declared.Spot.the-variants as spot
 pub use Rattle.state_readers.specs.Numbers.{eight, timerWords, handleWords, statusNumber, statusCode, givenWords, flagNumber, passedWords}
@@ -33,3 +36,10 @@ abbrev pub spotWords : Spot → List ℕ
 spotWords (spot.Refused why) = eight why 0 0 0 0 0 0 0
 spotWords spot.Nothing = eight 0 0 0 0 0 0 0 0
 spotWords (spot.At s) = eight 0 1 (s .at) (s .len) 0 0 0 0
+
+-- ---- what a report tells of a service: 0 absent, 1 listed, 2 unknown
+
+abbrev pub sightingWords : Sighting → List ℕ
+sightingWords (sighting.Refused why) = eight why 0 0 0 0 0 0 0
+sightingWords sighting.Nothing = eight 0 0 0 0 0 0 0 0
+sightingWords (sighting.Is presence) = eight 0 1 (presenceNumber presence) 0 0 0 0 0

@@ -2,12 +2,13 @@
 ghost use mathlib.Core.Path.{_≡_};
 ghost use Rattle.radio_sights.specs.View.{spanOf};
 ghost use Rattle.c_told.specs.Told.{answerWords, refusalWords, advertisedWords};
-ghost use Rattle.c_told.specs.Read.{statusNumber, statusCode, flagNumber, responseThere, timerWords, handleWords, givenWords, passedWords, seenWords, spotWords};
+ghost use Rattle.c_told.specs.Read.{statusNumber, statusCode, flagNumber, responseThere, timerWords, handleWords, givenWords, passedWords, seenWords, spotWords, sightingWords};
 use radio_match::AdvAction;
 use radio_sights::AdvReport;
 use radio_sights::Response;
 use radio_sights::Seen;
 use radio_sights::Span;
+use radio_views::Sighting;
 use radio_views::Spot;
 use state::LinkRequest;
 use state::Sent;
@@ -132,6 +133,7 @@ fn status_number(s: StepStatus) -> u64
         StepStatus::TooLong => 5,
         StepStatus::Disconnected => 6,
         StepStatus::TableFull => 7,
+        StepStatus::BearerClosed => 8,
     }
 }
 
@@ -148,6 +150,7 @@ fn status_code(s: StepStatus) -> u64
         StepStatus::TooLong => 0,
         StepStatus::Disconnected => 0,
         StepStatus::TableFull => 0,
+        StepStatus::BearerClosed => 0,
     }
 }
 
@@ -266,5 +269,19 @@ pub fn spot_words(x: Spot) -> [u64; 8]
         Spot::Refused(why) => [why as u64, 0, 0, 0, 0, 0, 0, 0],
         Spot::Nothing => [0, 0, 0, 0, 0, 0, 0, 0],
         Spot::At(s) => [0, THERE, s.at as u64, s.len as u64, 0, 0, 0, 0],
+    }
+}
+
+// What a report tells of a service: 0 absent, 1 listed, 2 unknown.
+pub fn sighting_words(x: Sighting) -> [u64; 8]
+    ensures { λ r. ⌜ r ≡ sightingWords x ⌝ }
+{
+    match x {
+        Sighting::Refused(why) => [why as u64, 0, 0, 0, 0, 0, 0, 0],
+        Sighting::Nothing => [0, 0, 0, 0, 0, 0, 0, 0],
+        Sighting::Is(presence) => {
+            let number = adv_presence::presence_number(presence);
+            [0, THERE, number as u64, 0, 0, 0, 0, 0]
+        }
     }
 }

@@ -1,20 +1,28 @@
-// The state before the first call: all of it is zero.
+// The state before the first call: all of it is zero but for the options that are chosen.
 ghost use mathlib.Core.Path.{_≡_};
-ghost use Rattle.state.specs.Fresh.{freshCentral};
+ghost use Rattle.state.specs.Fresh.{freshCentral, freshWith};
 ghost use Rattle.central.specs.State.{reading};
 use crate::State;
 use state::Bearer;
 use state::Counters;
 use state::Counts;
 use state::Link;
+use state::Options;
 use state::Running;
 use state::Step;
 use state_core::Core;
 use time::Micros;
 use time::Millis;
 
+// The old mode.
 pub fn fresh() -> State
     ensures { λ r. ⌜ reading r ≡ freshCentral ⌝ }
+{
+    fresh_with(Options { strict: false })
+}
+
+pub fn fresh_with(options: Options) -> State
+    ensures { λ r. ⌜ reading r ≡ freshWith options ⌝ }
 {
     State {
         core: Core {
@@ -37,6 +45,7 @@ pub fn fresh() -> State
                     terminating: false,
                 },
                 present: false,
+                closed: false,
             },
             counters: Counters {
                 next_index: 0,
@@ -54,6 +63,7 @@ pub fn fresh() -> State
             },
             reports: 0,
             key_count: 0,
+            options,
         },
         tables: [0u64; 1152],
     }

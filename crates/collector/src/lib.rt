@@ -3,6 +3,7 @@
 ghost use mathlib.Core.Path.{_≡_};
 ghost use Prim.Native.Nat.{_+_, _*_, _^_};
 ghost use Rattle.adv_data.specs.Ad.{listedPlace, listsService};
+ghost use Rattle.adv_presence.specs.Presences.{presenceIn, presenceNumber};
 ghost use Rattle.collector.specs.Found.{startOf, countOf};
 ghost use Rattle.l2cap_params.specs.Params.{goodParams};
 use adv_data::Place;
@@ -37,6 +38,20 @@ pub extern "C" fn barleyrope_find_service(
         }
         Place::Nothing => false,
     }
+}
+
+// What the advertising data and the scan response of an advertiser tell of the service: 0 absent, 1 listed, 2 unknown.
+#[no_mangle]
+pub extern "C" fn barleyrope_service_presence(
+    data: &[u8],
+    response: &[u8],
+    low: u64,
+    high: u64,
+) -> u32
+    ensures { λ r. ⌜ r ≡ presenceNumber (presenceIn (low + 2 ^ 64 * high) (now («data» .entry)) (now (response .entry))) ⌝ }
+{
+    let uuid = Uuid { low, high };
+    adv_presence::presence_number(adv_presence::service_presence(data, response, uuid))
 }
 
 // Whether the four numbers of a connection parameter update request are acceptable.

@@ -83,6 +83,7 @@ coreOf c =
       };
       reports = c .reports .count;
       «key_count» = c .keys .count;
+      options = c .options;
     }
 
 pub left-core : (c r : Core) (w : List ℕ) (why : ℕ) → central r w ≡ refusing (central c w) why → r ≡ pick (eqb why longFrame) (leaving.emptied c) c

@@ -10,7 +10,7 @@ use Rattle.central_answers.specs.Answers.{Leaves}
 
 -- nothing is held of a frame
 abbrev pub emptied : Core → Core
-emptied c = withBearer c (record { held = 0; link = c .bearer .link; present = c .bearer .present })
+emptied c = withBearer c (record { held = 0; link = c .bearer .link; present = c .bearer .present; closed = c .bearer .closed })
 
 abbrev pub FragmentLeaves : ℕ → Core → Core → List ℕ → List ℕ → List ℕ → List ℕ → Type 0
 FragmentLeaves why core after w v s t = Leaves why (pick (eqb why longFrame) (emptied core) core) after w v s t

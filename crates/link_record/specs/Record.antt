@@ -27,4 +27,4 @@ terminated l = record { handle = l .handle; mtu = l .mtu; pending = l .pending; 
 
 -- the record in its bearer
 abbrev pub withLink : Bearer → Link → Bearer
-withLink b l = record { held = b .held; link = l; present = b .present }
+withLink b l = record { held = b .held; link = l; present = b .present; closed = b .closed }

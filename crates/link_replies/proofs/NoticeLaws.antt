@@ -42,7 +42,7 @@ abbrev more-heard : Counts → ℕ → Counts
 more-heard n k = record { waiting = n .waiting; results = n .results; services = n .services; characteristics = n .characteristics; notifications = k }
 
 abbrev heard-by : Core → Counters → ℕ → Core
-heard-by c k n = record { running = c .running; bearer = c .bearer; counters = k; counts = more-heard (c .counts) n; reports = c .reports; «key_count» = c .«key_count» }
+heard-by c k n = record { running = c .running; bearer = c .bearer; counters = k; counts = more-heard (c .counts) n; reports = c .reports; «key_count» = c .«key_count»; options = c .options }
 
 pub keep-law : (c : Core) (w w' st st' : List ℕ) (at : Micros) (handle n : ℕ) (indication : Bool) (k : Counters) (more : ℕ)
     → st' ≡ keptValue st (c .counts .notifications) (payloadAt + 3) n

@@ -19,7 +19,7 @@ use Rattle.script_rules.specs.World.{Held}
 -- ---- what is held
 
 abbrev pub holding : Bearer → ℕ → Bearer
-holding b n = record { held = n; link = b .link; present = b .present }
+holding b n = record { held = n; link = b .link; present = b .present; closed = b .closed }
 
 abbrev pub withHeld : Central → ℕ → Central
 withHeld c n = withBearer c (holding (c .bearer) n)

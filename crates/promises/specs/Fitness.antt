@@ -10,6 +10,7 @@ use Rattle.bytes.specs.Choice.{pick}
 use Rattle.state_places.specs.Sizes.{mostKeys, dataSize}
 use Rattle.lists.specs.Blocks.{Valued}
 use Rattle.state.specs.Central.{Central}
+use Rattle.state.specs.declared.Options.{Options}
 use Rattle.state.specs.declared.Queue.{Queue}
 use Rattle.state.specs.declared.Queued.{Queued}
 use Rattle.state.specs.declared.Running.{Running}
@@ -77,8 +78,8 @@ lasts-run : (l : List (Valued StepResult)) (q : List Queued) (h : Held) (cs : Li
 lasts-run l q h [] t k f = f
 lasts-run l q h (c ∷ cs) t k f = lasts-run _ _ (left (does h c)) cs (t .1) (books-call l q h c k) (lasts-call l q h c (t .0) k f)
 
-pub lasting : (store : List ℕ) (cs : List Call) → Typed cs → Lasting (run (fresh store) cs .state)
-lasting store cs t = lasts-run [] [] (fresh store) cs t (books-fresh store) fresh-lasts
+pub lasting : (options : Options) (store : List ℕ) (cs : List Call) → Typed cs → Lasting (run (fresh options store) cs .state)
+lasting options store cs t = lasts-run [] [] (fresh options store) cs t (books-fresh options store) (fresh-lasts options)
 
 -- ---- the refusal
 
@@ -141,7 +142,7 @@ gate-fit h (fragment out at start piece) f =
     (fragment-later (eqb (h .state .counters .notified) mostNotified) (heldFits (h .state .bearer) start (length piece)))
 gate-fit h (reads r) f = first-fit (fits (h .state)) f _ _
 
-pub never-unfit : (store : List ℕ) (cs : List Call) → Typed cs → (c : Call) → does (run (fresh store) cs) c .refusal ≡ unfit → ⊥
-never-unfit store cs t c e =
-    let h = run (fresh store) cs in
-    gate-fit h c (lasting store cs t .fit) (sym (refusal-is h c) ∙ e)
+pub never-unfit : (options : Options) (store : List ℕ) (cs : List Call) → Typed cs → (c : Call) → does (run (fresh options store) cs) c .refusal ≡ unfit → ⊥
+never-unfit options store cs t c e =
+    let h = run (fresh options store) cs in
+    gate-fit h c (lasting options store cs t .fit) (sym (refusal-is h c) ∙ e)

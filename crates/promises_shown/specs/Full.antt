@@ -18,9 +18,9 @@ use Rattle.adv_reports.specs.Key.{key}
 use Rattle.radio_match.specs.Matching.{listens}
 use Rattle.radio_rules.specs.Hearing as radio
 use Rattle.script_rules.specs.World.{Held}
-use Rattle.thm_trail.specs.Calls.{does, left, fresh, run}
+use Rattle.thm_trail.specs.Calls.{does, left, run}
 use Rattle.promises.specs.Fitness.{refusal-is}
-use Rattle.promises_shown.specs.Sequences.{store, ms, step, said, heard, hearing, scanning}
+use Rattle.promises_shown.specs.Sequences.{fresh, store, ms, step, said, heard, hearing, scanning}
 use Rattle.promises_shown.specs.Opened.{opened}
 
 -- ---- the state alone

@@ -9,3 +9,5 @@ pub mod Untrue
 pub mod UntrueToo
 pub mod Waiting
 pub mod UntrueWaits
+pub mod Strict
+pub mod UntrueStrict

@@ -24,7 +24,7 @@ use Rattle.script_rules.specs.Events.{expire, connect, cutOff, lose, onTimer, o
 use Rattle.script_rules.specs.Finish.{pushedResult, ended, finish}
 use Rattle.script_rules.specs.Script.{advances, advance}
 use Rattle.script_rules.specs.Send.{send, request}
-use Rattle.script_rules.specs.Start.{startAlone, discoverIn, subscribeAt, subscribe, write, read, disconnect, startLinked, start}
+use Rattle.script_rules.specs.Start.{startAlone, discoverIn, subscribeAt, subscribe, write, read, disconnect, startLinked, startOn, start}
 use Rattle.script_rules.specs.Wait.{checkOne, checkFor, checkWait}
 use Rattle.script_rules.specs.Waiting.{pushOne, pushAll, takeStep}
 use Rattle.link_rules.specs.Att.{byOpcode, onAtt}
@@ -117,6 +117,7 @@ unfolding
     read
     disconnect
     startLinked
+    startOn
     start
     checkOne
     checkFor

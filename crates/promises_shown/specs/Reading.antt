@@ -10,14 +10,14 @@ use Rattle.state.specs.declared.StepResult.{StepResult}
 use Rattle.state.specs.declared.Step.the-variants.{Read}
 use Rattle.state.specs.declared.StepStatus.the-variants.{Ok}
 use Rattle.state_rules.specs.Fit.{awaits}
-use Rattle.thm_trail.specs.Calls.{fresh, run}
+use Rattle.thm_trail.specs.Calls.{run}
 use Rattle.thm_trail.specs.Trail.{link-came, att-heard}
 use Rattle.thm_trail.specs.Log.{log, taken}
 use Rattle.thm_requests.specs.Events.{Event, came, asked, result}
 use Rattle.thm_heard.specs.Heard.{silence, link, airOf}
 use Rattle.thm_heard.specs.Events.{events}
 use Rattle.promises_shown.specs.Opened.{opened}
-use Rattle.promises_shown.specs.Sequences.{store, at, asking, level, services, characteristics, noMore, known, answer, reading}
+use Rattle.promises_shown.specs.Sequences.{fresh, store, at, asking, level, services, characteristics, noMore, known, answer, reading}
 use Rattle.promises_shown.specs.Known.{knowing, knownStore, knows, known-is}
 use Rattle.promises_shown.specs.Logged.{resultsIn, log-of, events-join}
 

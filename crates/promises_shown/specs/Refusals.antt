@@ -10,8 +10,8 @@ use Rattle.state.specs.Fresh.{freshCentral, noNotification}
 use Rattle.state.specs.declared.Step.the-variants.{ExchangeMtu, Write, Wait}
 use Rattle.state_rules.specs.Fit.{fits}
 use Rattle.script_rules.specs.World.{Held}
-use Rattle.thm_trail.specs.Calls.{Call, batch, timer, connected, scanResponse, fragment, does, fresh, run}
-use Rattle.promises_shown.specs.Sequences.{store, out, at, ms, placed, only, step, each, address, heard, linked, level}
+use Rattle.thm_trail.specs.Calls.{Call, batch, timer, connected, scanResponse, fragment, does, run}
+use Rattle.promises_shown.specs.Sequences.{fresh, store, out, at, ms, placed, only, step, each, address, heard, linked, level}
 use Rattle.promises_shown.specs.Opened.{opened}
 
 -- what is said of each call of a list

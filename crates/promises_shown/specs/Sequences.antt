@@ -11,13 +11,16 @@ use Rattle.uuid.specs.declared.Uuid.{Uuid}
 use Rattle.notifications.specs.declared.Age.the-variants.{Any}
 use Rattle.l2cap.specs.Numbers.{cidAtt}
 use Rattle.l2cap.specs.Frame.{l2capFrame}
+use Rattle.state.specs.Fresh.{noOptions}
 use Rattle.state.specs.declared.Address.{Address}
 use Rattle.state.specs.declared.Step.{Step}
 use Rattle.state.specs.declared.Step.the-variants.{Scan, ExchangeMtu, DiscoverCharacteristics, Write, Read, WaitNotification, Wait, Capture}
+use Rattle.script_rules.specs.World.{Held}
 use Rattle.script_rules.specs.declared.Batch.{Batch}
 use Rattle.script_rules.specs.declared.Placed.{Placed}
 use Rattle.radio_rules.specs.Hearing as radio
 use Rattle.radio_match.specs.Matching.{advInd}
+use Rattle.thm_trail.specs.Calls as calls
 use Rattle.thm_trail.specs.Calls.{timerUs, connectedHandle, resultOf, passedOn, Call, batch, timer, connected, disconnected, advertising, scanResponse, fragment, reads}
 
 abbrev pub store : List ℕ
@@ -25,6 +28,10 @@ store = replicate storeSize 0
 
 abbrev pub out : List ℕ
 out = replicate outputSize 0
+
+-- what the promises say of any options is tried in the old mode; the strict one: Strict.antt
+abbrev pub fresh : List ℕ → Held
+fresh store = calls.fresh noOptions store
 
 abbrev pub at : ℕ → Micros
 at n = record { 0 = n }

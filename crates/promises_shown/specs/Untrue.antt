@@ -19,7 +19,7 @@ use Rattle.state.specs.declared.Step.the-variants.{Read, Wait, Capture}
 use Rattle.state.specs.declared.StepStatus.the-variants.{Ok}
 use Rattle.state_rules.specs.Fit.{awaits, fits}
 use Rattle.script_rules.specs.World.{Held, World}
-use Rattle.thm_trail.specs.Calls.{Call, batch, timer, disconnected, does, left, fresh, run, done?}
+use Rattle.thm_trail.specs.Calls.{Call, batch, timer, disconnected, does, left, run, done?}
 use Rattle.thm_trail.specs.Trail.{News, link-came, link-went, att-heard, Pass, begins, goes}
 use Rattle.thm_trail.specs.Log.{keptResults, noValued, gave, log, taken}
 use Rattle.thm_accounting.specs.InLine.{inLine}
@@ -29,7 +29,7 @@ use Rattle.thm_requests.specs.Events.{Event, came, asked, result, askedIn, news
 use Rattle.thm_heard.specs.Heard.{Air, silence, after, news, heard}
 use Rattle.thm_heard.specs.Events.{events}
 use Rattle.promises.specs.Fitness.{Typed}
-use Rattle.promises_shown.specs.Sequences.{store, out, at, ms, placed, only, step, sixtyFour, linked, asking, askingSecond, told, level, known, reading, fills, indication, widens, command}
+use Rattle.promises_shown.specs.Sequences.{fresh, store, out, at, ms, placed, only, step, sixtyFour, linked, asking, askingSecond, told, level, known, reading, fills, indication, widens, command}
 use Rattle.promises_shown.specs.Refusals.{refuses}
 use Rattle.promises_shown.specs.Known.{knowing, knownStore, knows, from-there}
 use Rattle.promises_shown.specs.Reading.{read-taken, read-logged, happened}

@@ -25,7 +25,7 @@ use Rattle.state_readers.specs.declared.Handle.{Handle}
 use Rattle.state_readers.specs.declared.Handle.the-variants.{Absent, Is}
 use Rattle.state_readers.specs.Readers as readers
 use Rattle.state_readers.specs.Numbers.{eight, handleWords}
-use Rattle.thm_trail.specs.Calls.{timerUs, connectedHandle, resultOf, Call, batch, timer, connected, disconnected, advertising, scanResponse, fragment, reads, timeOf, does, left, fresh, run}
+use Rattle.thm_trail.specs.Calls.{timerUs, connectedHandle, resultOf, Call, batch, timer, connected, disconnected, advertising, scanResponse, fragment, reads, timeOf, does, left, run}
 use Rattle.thm_trail.specs.Trail.{News, link-came, link-went, cameOn}
 use Rattle.thm_trail.specs.Log.{noValued, givenBy, log, taken}
 use Rattle.thm_counts.specs.Tally.{noticed}
@@ -38,7 +38,7 @@ use Rattle.thm_heard.specs.Events.{events}
 use Rattle.thm_links.specs.Keeps.{Keeps}
 use Rattle.thm_readers.specs.Said.{said, nothing, linkBy, refusals, Shows}
 use Rattle.promises.specs.Fitness.{Typed}
-use Rattle.promises_shown.specs.Sequences.{store, out, at, ms, placed, step, both, linked, asking, known}
+use Rattle.promises_shown.specs.Sequences.{fresh, store, out, at, ms, placed, step, both, linked, asking, known}
 use Rattle.promises_shown.specs.Known.{knowing, knownStore, knows, from-there}
 use Rattle.promises_shown.specs.Opened.{opened}
 

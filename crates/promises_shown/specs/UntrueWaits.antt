@@ -25,14 +25,14 @@ use Rattle.gatt_characteristics.specs.declared.Which.the-variants.{At}
 use Rattle.notifications.specs.declared.Notification.{Notification}
 use Rattle.notifications.specs.declared.Age.the-variants.{Within}
 use Rattle.notifications.specs.Wait.{starts, contains}
-use Rattle.state.specs.Fresh.{noQueued}
+use Rattle.state.specs.Fresh.{noOptions, noQueued}
 use Rattle.state.specs.declared.Queued.{Queued}
 use Rattle.state.specs.declared.Step.{Step}
 use Rattle.state.specs.declared.Step.the-variants.{WaitNotification, Capture}
 use Rattle.state.specs.declared.StepResult.{StepResult}
 use Rattle.state.specs.declared.StepStatus.the-variants.{Ok}
 use Rattle.script_rules.specs.World.{Held}
-use Rattle.thm_trail.specs.Calls.{Call, batch, timer, connected, disconnected, advertising, scanResponse, fragment, reads, timeOf, does, left, fresh, run}
+use Rattle.thm_trail.specs.Calls.{Call, batch, timer, connected, disconnected, advertising, scanResponse, fragment, reads, timeOf, does, left, run}
 use Rattle.thm_trail.specs.Trail.{News, link-came, link-went, att-heard, Pass, begins, goes, final}
 use Rattle.thm_trail.specs.Log.{noValued, givenBy, takesIn, taken}
 use Rattle.thm_counts.specs.Tally.{isNotice}
@@ -43,7 +43,7 @@ use Rattle.thm_waits.specs.Waits as waits
 use Rattle.thm_waits.specs.Waits.{Terms, Numbered, numbered, passedIn, waitFrom, valuesOf, Present}
 use Rattle.promises_shown.specs.Opened.{opened}
 use Rattle.promises_shown.specs.Sequences as calls
-use Rattle.promises_shown.specs.Sequences.{store, at, ms, step, level}
+use Rattle.promises_shown.specs.Sequences.{fresh, store, at, ms, step, level}
 use Rattle.promises_shown.specs.Known.{knowing, knownStore, knows, from-there}
 use Rattle.promises_shown.specs.Waiting as shown
 
@@ -76,7 +76,7 @@ AgedWait r =
     (store : List ℕ) (cs : List Call) (c : Call) (i : ℕ) → let given = givenBy (run (fresh store) cs) c in i < length given
     → let x = getD given i noValued .entry in let all = cs ++ (c ∷ []) in (u : Uuid) (ms age : Millis)
     → getD (taken (fresh store) all) (x .index) noQueued .step ≡ WaitNotification u ms (Within age) → x .status ≡ Ok
-    → Passed r (run (fresh store) cs) c (brought store all) (waitFrom store cs) u age (getD (valuesOf (fresh store) all) (x .index) []) x
+    → Passed r (run (fresh store) cs) c (brought noOptions store all) (waitFrom noOptions store cs) u age (getD (valuesOf (fresh store) all) (x .index) []) x
 
 -- what the rules say at a list of calls that was computed
 at-calls : (r : Rules) (ds : List Call) (c : Call) (t n : ℕ) (b : Brought) (value : List ℕ) → shown.Comes ds c (shown.passedAt t n) b shown.aged value → AgedWait r
@@ -94,7 +94,7 @@ at-calls r ds c t n b value k p = moved (shown.brought-is ds c k) (shown.from-is
     x-is = ap (λ (l : List (Valued StepResult)). getD l 0 noValued .entry) given-is
 
     there :
-        Passed r (run (fresh store) (shown.before ds c)) c (brought store (shown.before ds c ++ (c ∷ []))) (waitFrom store (shown.before ds c)) level (ms 2)
+        Passed r (run (fresh store) (shown.before ds c)) c (brought noOptions store (shown.before ds c ++ (c ∷ []))) (waitFrom noOptions store (shown.before ds c)) level (ms 2)
         (getD (valuesOf (fresh store) (shown.before ds c ++ (c ∷ []))) (getD given 0 noValued .entry .index) [])
         (getD given 0 noValued .entry)
     there =

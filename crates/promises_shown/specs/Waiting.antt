@@ -7,21 +7,21 @@ use lib.ListN.{getD}
 use Rattle.lists.specs.Blocks.{Valued}
 use Rattle.notifications.specs.declared.Notification.{Notification}
 use Rattle.notifications.specs.declared.Age.the-variants.{Within}
-use Rattle.state.specs.Fresh.{noQueued}
+use Rattle.state.specs.Fresh.{noOptions, noQueued}
 use Rattle.state.specs.declared.Queued.{Queued}
 use Rattle.state.specs.declared.Step.{Step}
 use Rattle.state.specs.declared.Step.the-variants.{DiscoverCharacteristics, WaitNotification}
 use Rattle.state.specs.declared.StepResult.{StepResult}
 use Rattle.state.specs.declared.StepStatus.the-variants.{Ok}
 use Rattle.script_rules.specs.World.{Held}
-use Rattle.thm_trail.specs.Calls.{Call, batch, connected, disconnected, does, left, fresh, run}
+use Rattle.thm_trail.specs.Calls.{Call, batch, connected, disconnected, does, left, run}
 use Rattle.thm_trail.specs.Log.{givenBy, takesIn, taken}
 use Rattle.thm_heard.specs.Heard.{link}
 use Rattle.thm_waits.specs.Notices.{Brought, brings, broughtBy, nothingYet, brought}
 use Rattle.thm_waits.specs.Waits.{waitFrom, valuesIn, valuesOf}
 use Rattle.promises.specs.Promises.{wait-from-counted}
 use Rattle.promises_shown.specs.Opened.{opened}
-use Rattle.promises_shown.specs.Sequences.{store, out, at, ms, placed, only, step, att, battery, level, known}
+use Rattle.promises_shown.specs.Sequences.{fresh, store, out, at, ms, placed, only, step, att, battery, level, known}
 use Rattle.promises_shown.specs.Known.{knowing, knownStore, knows, known-is, from-there}
 
 abbrev pub aged : Step
@@ -48,7 +48,7 @@ tellsOther t = att t (0x1B ∷ 0x05 ∷ 0x00 ∷ [])
 abbrev pub linked : Brought
 linked = record { air = link 64 []; links = 1; notices = [] }
 
-brought-known : brought store known ≡ linked
+brought-known : brought noOptions store known ≡ linked
 unfolding opened
 brought-known = refl
 
@@ -93,16 +93,16 @@ module _ (ds : List Call) (c : Call) where
     pub gives-x : givenBy (run (fresh store) before) c ≡ record { entry = x; value = [] } ∷ []
     gives-x = ap (λ (h : Held). givenBy h c) (from-there ds) ∙ k .given
 
-    pub brought-is : brought store (before ++ (c ∷ [])) ≡ b
+    pub brought-is : brought noOptions store (before ++ (c ∷ [])) ≡ b
     brought-is =
-        ap (brought store) all-is
+        ap (brought noOptions store) all-is
         ∙ brought-after nothingYet (fresh store) known (ds ++ (c ∷ []))
         ∙ ap (λ (y : Brought). broughtBy y (run (fresh store) known) (ds ++ (c ∷ []))) brought-known
         ∙ ap (λ (h : Held). broughtBy linked h (ds ++ (c ∷ []))) known-is
         ∙ k .brings-b
 
-    pub from-is : waitFrom store before ≡ 0
-    from-is = sym (wait-from-counted store before) ∙ ap (λ (h : Held). h .state .counters .«wait_from») (from-there ds) ∙ k .from
+    pub from-is : waitFrom noOptions store before ≡ 0
+    from-is = sym (wait-from-counted noOptions store before) ∙ ap (λ (h : Held). h .state .counters .«wait_from») (from-there ds) ∙ k .from
 
     pub step-is : getD (taken (fresh store) (before ++ (c ∷ []))) (x .index) noQueued .step ≡ s
     step-is =

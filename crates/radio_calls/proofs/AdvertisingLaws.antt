@@ -160,11 +160,11 @@ acted-same c v r r' s s' i i' e f g = rw (e, f, g)
 
 abbrev pub withCount : Core → ℕ → Core
 withCount c n =
-    record { running = c .running; bearer = c .bearer; counters = c .counters; counts = c .counts; reports = n; «key_count» = c .«key_count» }
+    record { running = c .running; bearer = c .bearer; counters = c .counters; counts = c .counts; reports = n; «key_count» = c .«key_count»; options = c .options }
 
 abbrev pub withAsked : Core → ℕ → ℕ → Core
 withAsked c n k =
-    record { running = c .running; bearer = c .bearer; counters = c .counters; counts = c .counts; reports = n; «key_count» = k }
+    record { running = c .running; bearer = c .bearer; counters = c .counters; counts = c .counts; reports = n; «key_count» = k; options = c .options }
 
 module _ (core : Core) (w v s s' : List ℕ) (a : Adv) (who : ℕ) (new : Bool) (g : Going (central core w) s a who new) (n place response : ℕ)
     (p : Keeps w v s s' (a .bytes) (core .reports) (heardLine who (a .at) (a .channel) (a .pdu) (a .bytes)) n place response) where
@@ -232,6 +232,7 @@ coreOf c =
       };
       reports = c .reports .count;
       «key_count» = c .keys .count;
+      options = c .options;
     }
 
 advertisedOf : Outcome → Advertised

@@ -29,6 +29,10 @@ use Rattle.state_core.specs.declared.Core.{Core}
 use Rattle.state_core.specs.Reading.{central}
 use Rattle.radio_views.specs.declared.Spot.{Spot}
 use Rattle.radio_views.specs.declared.Spot.the-variants as spot
+use Rattle.adv_presence.specs.declared.Presence.{Presence}
+use Rattle.adv_presence.specs.Presences.{presenceIn}
+use Rattle.radio_views.specs.declared.Sighting.the-variants as sighting
+use Rattle.radio_views.specs.Presences.{presenceSeen}
 use Rattle.radio_views.specs.Spots.{behind, placeIn, spotOr, bodyIn, bodySpot}
 
 -- ---- report i
@@ -100,7 +104,7 @@ module _ (u : ℕ) (s : List ℕ) (d a : Span) where
 -- ---- of what is seen
 
 module _ (core : Core) (w : List ℕ) (s : List ℕ) (i : ℕ) (x : Seen) (e : x ≡ view (central core w) (length s) i) where
-  pub seen-as : (f : Seen → Spot) (y : Seen) → x ≡ y → f y ≡ f (view (central core w) (length s) i)
+  pub seen-as : {A : Type 0} (f : Seen → A) (y : Seen) → x ≡ y → f y ≡ f (view (central core w) (length s) i)
   seen-as f y g = ap f (sym g ∙ e)
 
   pub part-as : (f : Seen → Span) (p : ℕ × ℕ) (d : Span) → d ≡ f x
@@ -115,3 +119,21 @@ module _ (core : Core) (w : List ℕ) (s : List ℕ) (i : ℕ) (x : Seen) (e : x
       let g : a ≡ answerIn (seen.Is r) = ea ∙ ap answerIn is in
       let q : bodyIn u s d a ≡ bodySpot u s (seen.Is r) = rw (f, g) in
       h ∙ q ∙ seen-as (bodySpot u s) (seen.Is r) is
+
+  pub presence-law : (u : ℕ) (r : AdvReport) (d a : Span) (p : Presence) → x ≡ seen.Is r → d ≡ dataIn x → a ≡ answerIn x
+      → p ≡ presenceIn u (part s d) (part s a) → sighting.Is p ≡ presenceSeen u s (view (central core w) (length s) i)
+  presence-law u r d a p is ed ea h =
+      let f : d ≡ dataIn (seen.Is r) = ed ∙ ap dataIn is in
+      let g : a ≡ answerIn (seen.Is r) = ea ∙ ap answerIn is in
+      let q : sighting.Is p ≡ presenceSeen u s (seen.Is r) = rw (h, f, g) in
+      q ∙ seen-as (presenceSeen u s) (seen.Is r) is
+
+-- ---- what two parts of the store tell, as the code takes them
+
+pub presence-parts : (u : ℕ) (s : List ℕ) (d a : Span) (p : Presence)
+    → p ≡ presenceIn u (take (d .at + d .len - d .at) (drop (d .at) s)) (take (a .at + a .len - a .at) (drop (a .at) s))
+    → p ≡ presenceIn u (part s d) (part s a)
+presence-parts u s d a p h =
+    let m : d .at + d .len - d .at ≡ d .len = omega arith in
+    let n : a .at + a .len - a .at ≡ a .len = omega arith in
+    h ∙ rw (m, n)

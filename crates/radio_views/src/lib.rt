@@ -6,8 +6,11 @@ ghost use Rattle.state_places.specs.Sizes.{mostReports};
 ghost use Rattle.uuid.specs.Value.{num};
 ghost use Rattle.radio_sights.specs.View.{responseIn, view, dataIn, answerIn, part, partAt, bodySeen, bodySeenAt};
 ghost use Rattle.state_core.specs.Reading.{central};
+ghost use Rattle.adv_presence.specs.Presences.{presenceIn};
+ghost use Rattle.radio_views.specs.Presences.{presenceSeen};
 ghost use Rattle.radio_views.specs.Spots.{placeIn, bodyIn, responseSpot, dataSeen, responseSeen, bodySpot};
 use adv_data::Place;
+use adv_presence::Presence;
 pub use radio_sights::AdvReport;
 pub use radio_sights::Response;
 pub use radio_sights::Seen;
@@ -22,6 +25,13 @@ pub enum Spot {
     Refused(u8),
     Nothing,
     At(Span),
+}
+
+// What a report tells of a service: refused, no such report, or what it tells.
+pub enum Sighting {
+    Refused(u8),
+    Nothing,
+    Is(Presence),
 }
 
 const MAX_LENGTH: u8 = MAX_DATA as u8;
@@ -154,6 +164,43 @@ pub fn report_body_at(core: Core, tables: &[u64; 1152], store: &[u8], i: usize, 
         Seen::Refused(why) => Spot::Refused(why),
         Seen::Nothing => Spot::Nothing,
         Seen::Is(_) => body_in(store, data, answer, uuid),
+    }
+}
+
+// ---- what it tells of a service
+
+// What two parts of the store tell of the service.
+fn presence_in(store: &[u8], data: Span, answer: Span, uuid: Uuid) -> Presence
+    requires { ⌜ («data» .at + «data» .len ≤ length (now store)) × (answer .at + answer .len ≤ length (now store)) ⌝ }
+    ensures { λ r. ⌜ r ≡ presenceIn (num uuid) (part (now (store .entry)) «data») (part (now (store .entry)) answer) ⌝ }
+{
+    let from = data.at;
+    let to = from + data.len;
+    let begin = answer.at;
+    let end = begin + answer.len;
+    adv_presence::service_presence(&store[from..to], &store[begin..end], uuid)
+}
+
+// Whether report i lists the service, does not, or cannot tell, by its data and its scan response.
+pub fn report_presence(
+    core: Core,
+    tables: &[u64; 1152],
+    store: &[u8],
+    i: usize,
+    uuid: Uuid,
+) -> Sighting
+    ensures { λ r. ⌜ r ≡ presenceSeen (num uuid) (now (store .entry)) (view (central core (now (tables .entry))) (length (now (store .entry))) i) ⌝ }
+{
+    let x = report(core, tables, store, i);
+    let data = radio_sights::data_in(x);
+    let answer = radio_sights::answer_in(x);
+    match x {
+        Seen::Refused(why) => Sighting::Refused(why),
+        Seen::Nothing => Sighting::Nothing,
+        Seen::Is(_) => {
+            let presence = presence_in(store, data, answer, uuid);
+            Sighting::Is(presence)
+        }
     }
 }
 

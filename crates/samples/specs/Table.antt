@@ -31,7 +31,7 @@ use Rattle.script_rules.specs.declared.Batch.{Batch}
 use Rattle.script_rules.specs.Send.{send, request}
 use Rattle.script_rules.specs.Waiting.{pushOne, pushAll, takeStep}
 use Rattle.script_rules.specs.Discovery.{discoverServices}
-use Rattle.script_rules.specs.Start.{startLinked, start}
+use Rattle.script_rules.specs.Start.{startLinked, startOn, start}
 use Rattle.script_rules.specs.Script.{advances, advance}
 use Rattle.script_rules.specs.Outcome.{Outcome}
 use Rattle.script_rules.specs.Batch.{batchFits, countersFit, gateBatch, pushSteps}
@@ -186,6 +186,7 @@ unfolding
     takeStep
     discoverServices
     startLinked
+    startOn
     start
     advances
     advance

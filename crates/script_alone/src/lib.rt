@@ -1,7 +1,9 @@
-// What each kind of step does where there is no link.
+// What each kind of step does where there is no link, and which steps a closed bearer bars.
 ghost use mathlib.Core.Path.{_≡_};
-ghost use Rattle.script_rules.specs.Start.{unlinkedStep};
+ghost use Rattle.script_rules.specs.Start.{unlinkedStep, barred};
 use script_rules::Alone;
+use state::Bearer;
+use state::Options;
 use state::Step;
 
 pub fn alone_with(step: Step) -> Alone
@@ -38,4 +40,11 @@ pub fn alone_with(step: Step) -> Alone
         Step::Capture { enabled: _ } => Alone::Done,
         Step::CaptureSecrets { secrets: _ } => Alone::Done,
     }
+}
+
+// Whether a step may not begin: in strict mode one that could send ATT, on a bearer that an ATT timeout has closed.
+pub fn is_barred(o: Options, b: Bearer, step: Step) -> bool
+    ensures { λ r. ⌜ r ≡ barred o b step ⌝ }
+{
+    o.strict & (b.closed & state_kinds::is_att(step))
 }

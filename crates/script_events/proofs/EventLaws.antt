@@ -1,9 +1,10 @@
 -- What the events ask of what they call, and what each of their returns asks.
-use Prim.Native.Nat.{ℕ, _<_}
+use Prim.Native.Nat.{ℕ, _≤_, _<_}
 use mathlib.Core.Path.{_≡_, refl, sym, ap, ap₂, subst, _∙_}
 use mathlib.Core.Bool.{Bool, true, false, _||_}
-use mathlib.Core.List.{List}
+use mathlib.Core.List.{List, []}
 use Rattle.bytes.specs.Choice.{pick}
+use Rattle.state_places.specs.Sizes.{mostResults}
 use Rattle.time.specs.declared.Micros.{Micros}
 use Rattle.state.specs.declared.Bearer.{Bearer}
 use Rattle.state.specs.declared.Counters.{Counters}
@@ -14,13 +15,12 @@ use Rattle.state_counters.specs.Counters.{mostLinks}
 use Rattle.script_rules.specs.World.{Held, World, onHeld, onState}
 use Rattle.script_rules.specs.Start.{ends}
 use Rattle.script_rules.specs.Sound.{Sound, Whole}
-use Rattle.script_rules.proofs.KeepStarts.{stays-ends}
 use Rattle.script_rules.specs.Script.{advance}
 use Rattle.script_rules.specs.Unlinked.{advanceUnlinked}
 use Rattle.script_rules.proofs.UnlinkedLaws.{present-finish, advance-unlinked}
 use Rattle.script_rules.proofs.CallBeginLaws.{sound-stays, whole-stays}
-use Rattle.script_rules.specs.Comings.{timedOut, due, expire, isConnect, greeted, linkCounted, withNewLink, connect, unlinked, goesOn, cutStatus, cutOff, silent, lose}
-use Rattle.script_rules.proofs.KeepEvents.{stays-met, stays-lost}
+use Rattle.script_rules.specs.Comings.{timedOut, due, closing, givenUp, expire, isConnect, greeted, linkCounted, withNewLink, connect, unlinked, goesOn, cutStatus, cutOff, silent, lose}
+use Rattle.script_rules.proofs.KeepEvents.{stays-late, stays-met, stays-lost}
 use Rattle.link_record.specs.Record.{newLink, withLink}
 use Rattle.state_core.specs.declared.Core.{Core}
 use Rattle.state_core.specs.declared.Turn.{Turn}
@@ -45,20 +45,34 @@ module _ {A : Type 0} (b k : Bool) (e : b ≡ k) (x y : A) where
 
 -- ---- the timer
 
+-- v is t as the end of its step by its deadline finds it
+abbrev GivesUp : Turn → Turn → Type 0
+GivesUp t v = (w s o : List ℕ) → world v w s o ≡ onHeld (world t w s o) (givenUp (held (t .core) w s))
+
+pub give-up-law : (t : Turn) (b : Bearer) → b ≡ closing (t .core .options) (t .core .running) (t .core .bearer)
+    → GivesUp t (turned t (reading.withBearer (t .core) b))
+give-up-law t b e w s o = ap (λ (x : Bearer). world (turned t (reading.withBearer (t .core) x)) w s o) e
+
+pub late-few : (t v : Turn) (w st : List ℕ) → GivesUp t v → t .core .counts .results ≤ mostResults → v .core .counts .results ≤ mostResults
+late-few t v w st ev l = subst (λ (x : World). x .held .state .results .count ≤ mostResults) (sym (ev w st [])) l
+
 module _ (t : Turn) (w st out : List ℕ) (at : Micros) (d : Bool) (ed : d ≡ due (t .core .running) at) where
   pub expire-rests : d ≡ false → world t w st out ≡ expire (world t w st out) at
   unfolding expire
   expire-rests h = rw (← ed, h)
 
-  module _ (h : d ≡ true) (status : StepStatus) (es : status ≡ timedOut (t .core .running .step)) (u : Turn) (w₁ st₁ : List ℕ)
-      (ef : (o : List ℕ) → world u w₁ st₁ o ≡ onHeld (world t w st o) (ends (held (t .core) w st) at status)) where
-    ended : world u w₁ st₁ out ≡ onHeld (world t w st out) (ends (held (t .core) w st) at (timedOut (t .core .running .step)))
-    ended = ef out ∙ ap (λ (z : StepStatus). onHeld (world t w st out) (ends (held (t .core) w st) at z)) es
+  module _ (h : d ≡ true) (status : StepStatus) (es : status ≡ timedOut (t .core .running .step)) (v : Turn) (ev : GivesUp t v) (u : Turn) (w₁ st₁ : List ℕ)
+      (ef : (o : List ℕ) → world u w₁ st₁ o ≡ onHeld (world v w st o) (ends (held (v .core) w st) at status)) where
+    ended : world u w₁ st₁ out ≡ onHeld (world t w st out) (ends (givenUp (held (t .core) w st)) at (timedOut (t .core .running .step)))
+    ended =
+        ef out
+        ∙ ap (λ (x : World). onHeld x (ends (x .held) at status)) (ev w st out)
+        ∙ ap (λ (z : StepStatus). onHeld (world t w st out) (ends (givenUp (held (t .core) w st)) at z)) es
 
     pub expire-may : Sound 65 (world t w st out) → Sound 65 (world u w₁ st₁ out)
     expire-may k =
         subst (λ (v : World). Sound 65 v) (sym ended)
-        (sound-stays 65 (world t w st out) _ k (stays-ends (held (t .core) w st) at (timedOut (t .core .running .step)) (k .nearly)))
+        (sound-stays 65 (world t w st out) _ k (stays-late (held (t .core) w st) at (timedOut (t .core .running .step)) (k .nearly)))
 
     pub expire-done : (r : Turn) (w₂ st₂ out₂ : List ℕ) → world r w₂ st₂ out₂ ≡ advance (world u w₁ st₁ out) at
         → world r w₂ st₂ out₂ ≡ expire (world t w st out) at
@@ -89,7 +103,7 @@ module _ (c : Core) (w st : List ℕ) (at : Micros) (b : Bool) where
 
 -- the bearer's record is a new link's, nothing is held, there is a link, and it is counted
 abbrev come : Core → Bearer → Counters → Core
-come c b k = reading.withCounters (reading.withBearer c (record { held = 0; link = b .link; present = true })) k
+come c b k = reading.withCounters (reading.withBearer c (record { held = 0; link = b .link; present = true; closed = false })) k
 
 module _ (t : Turn) (w st out : List ℕ) (handle : ℕ) (at : Micros) (b : Bearer) (eb : b ≡ withLink (t .core .bearer) (newLink handle))
     (k : Counters) (ek : k ≡ linkCounted (t .core .counters)) (n : Core) (w₁ st₁ : List ℕ) (en : held n w₁ st₁ ≡ greeted (held (come (t .core) b k) w st) at) where

@@ -1,11 +1,13 @@
 // on_timer, on_connected and on_disconnected.
 ghost use mathlib.Core.Path.{_≡_};
-ghost use Prim.Native.Nat.{_≤_, _<_};
+ghost use mathlib.Core.List.{List};
+ghost use Prim.Native.Nat.{ℕ, _≤_, _<_};
 ghost use lib.ListN.{length};
 ghost use Rattle.state_places.specs.Sizes.{storeSize, mostResults};
 ghost use Rattle.time.specs.Clock.{latest};
 ghost use Rattle.script_rules.specs.Timeouts.{timedOut};
-ghost use Rattle.script_rules.specs.Comings.{greeted, linkCounted, goesOn, cutStatus, expire, connect, cutOff, lose};
+ghost use Rattle.script_rules.specs.Comings.{givenUp, greeted, linkCounted, goesOn, cutStatus, expire, connect, cutOff, lose};
+ghost use Rattle.script_rules.specs.World.{onHeld};
 ghost use Rattle.script_rules.specs.Sound.{Sound, Whole};
 ghost use Rattle.script_rules.specs.Events.{onTimer, gateConnected, onConnected, onDisconnected};
 ghost use Rattle.state_counters.specs.Counters.{mostLinks};
@@ -35,6 +37,19 @@ fn timed_out(step: Step) -> StepStatus
     StepStatus::Timeout
 }
 
+// The turn of a step that its deadline ends, before its end clears what it awaits.
+fn give_up(t: Turn) -> Turn
+    ensures { λ r. ⌜ ((w s o : List ℕ) → world r w s o ≡ onHeld (world t w s o) (givenUp (held (t .core) w s))) ⌝ }
+{
+    let mut core = t.core;
+    let sent = t.sent;
+    let options = core.options;
+    let running = core.running;
+    let bearer = core.bearer;
+    core.bearer = script_timeouts::closing(options, running, bearer);
+    Turn { core, sent }
+}
+
 // The running step ends, if its deadline is now or before.
 fn expire(t: Turn, tables: &mut [u64; 1152], store: &mut [u8], out: &mut [u8], at: Micros) -> Turn
     requires { ⌜ Sound 65 (world t (now tables) (now store) (now out)) × (at .0 ≤ latest) ⌝ }
@@ -44,7 +59,8 @@ fn expire(t: Turn, tables: &mut [u64; 1152], store: &mut [u8], out: &mut [u8], a
     let running = core.running;
     if script_timeouts::is_due(running, at) {
         let step = running.step;
-        let u = script_turns::end_turn(t, tables, store, at, timed_out(step));
+        let late = give_up(t);
+        let u = script_turns::end_turn(late, tables, store, at, timed_out(step));
         return script_run::advance(u, tables, store, out, at);
     }
     t
@@ -112,6 +128,7 @@ fn connect(
     let mut bearer = link_record::opened(was, handle);
     bearer.held = 0;
     bearer.present = true;
+    bearer.closed = false;
     core.bearer = bearer;
     let counters = core.counters;
     core.counters = count_link(counters);

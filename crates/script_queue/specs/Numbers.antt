@@ -27,6 +27,7 @@ withLine c l =
       counts = withWaiting (c .counts) (l .waiting);
       reports = c .reports;
       «key_count» = c .«key_count»;
+      options = c .options;
     }
 
 -- the step runs, with the next number; no advertiser has been asked
@@ -39,4 +40,5 @@ started c q =
       counts = withWaiting (c .counts) (c .counts .waiting - 1);
       reports = c .reports;
       «key_count» = 0;
+      options = c .options;
     }

@@ -1,4 +1,4 @@
--- A link that comes or goes, and the step that it ends, keep what holds through a call.
+-- A link that comes or goes, the step that it ends, and a step that its deadline ends keep what holds through a call.
 use Prim.Native.Nat.{ℕ, _+_, _<_}
 use mathlib.Core.Path.{_≡_, refl}
 use mathlib.Core.Bool.{Bool, true, false}
@@ -14,6 +14,7 @@ use Rattle.notifications.specs.declared.Notification.{Notification}
 use Rattle.notifications.specs.Kept.{live, linksFit}
 use Rattle.state.specs.Central.{withBearer, withCounters}
 use Rattle.state.specs.declared.Step.{Step}
+use Rattle.state.specs.declared.StepStatus.{StepStatus}
 use Rattle.state.specs.declared.StepStatus.the-variants.{Ok}
 use Rattle.state_rules.specs.Fit.{mostLinks}
 use Rattle.script_rules.specs.World.{Held, onState}
@@ -21,7 +22,7 @@ use Rattle.script_rules.specs.Start.{ends}
 use Rattle.script_rules.specs.Nearly.{Nearly}
 use Rattle.script_rules.proofs.KeepTurns.{Stays, stays, then, stays-bearer, stays-absent}
 use Rattle.script_rules.proofs.KeepStarts.{stays-ends}
-use Rattle.script_rules.specs.Comings.{linked, isConnect, greeted, linkCounted, withNewLink, unlinked, goesOn, cutStatus, cutOff}
+use Rattle.script_rules.specs.Comings.{givenUp, linked, isConnect, greeted, linkCounted, withNewLink, unlinked, goesOn, cutStatus, cutOff}
 
 -- ---- a link comes, or goes
 
@@ -101,3 +102,29 @@ stays-lost h at step f =
     let a : Held = onState h (withBearer (h .state) (unlinked (h .state .bearer))) in
     let s = stays-unlinked h f in
     then h a (cutOff a at step) s (stays-cut a at step (s .nearly))
+
+-- ---- a step that its deadline ends
+
+pub stays-given-up : (h : Held) → Nearly (h .state) → Stays h (givenUp h)
+stays-given-up h f =
+    record {
+      nearly = record {
+        waits = f .waits;
+        keys = f .keys;
+        results = f .results;
+        peer = f .peer;
+        heard = f .heard;
+        tally = f .tally;
+        linked = record { held = f .linked .held; mtuLow = f .linked .mtuLow; mtuHigh = f .linked .mtuHigh };
+        runs = f .runs;
+        asks = record { request = f .asks .request; asking = f .asks .asking; att = f .asks .att };
+      };
+      store = refl;
+      queue = refl;
+      timed = λ t. record { running = t .running; waiting = t .waiting; deadline = t .deadline };
+    }
+
+pub stays-late : (h : Held) (at : Micros) (status : StepStatus) → Nearly (h .state) → Stays h (ends (givenUp h) at status)
+stays-late h at status f =
+    let s = stays-given-up h f in
+    then h (givenUp h) (ends (givenUp h) at status) s (stays-ends (givenUp h) at status (s .nearly))

@@ -38,7 +38,7 @@ use Rattle.state.specs.Central.{Central, withRunning, withCounters, withBearer}
 use Rattle.state.specs.declared.Step.{Step}
 use Rattle.state.specs.declared.Step.the-variants.{Scan, Connect, ExchangeMtu, DiscoverServices, DiscoverCharacteristics, Subscribe, Write, Read, WaitNotification, Wait, Disconnect, Capture, CaptureSecrets}
 use Rattle.state.specs.declared.StepStatus.{StepStatus}
-use Rattle.state.specs.declared.StepStatus.the-variants.{Ok, NotConnected, NotFound, TooLong}
+use Rattle.state.specs.declared.StepStatus.the-variants.{Ok, NotConnected, NotFound, TooLong, BearerClosed}
 use Rattle.state_rules.specs.Steps.{implies, mostMtu, defaultMtu, carries, mtuNamed, stepFits, attStep}
 use Rattle.state_rules.specs.Fit.{isRequest}
 use Rattle.state_rules.proofs.FitLaws.{both}
@@ -51,7 +51,7 @@ use Rattle.script_rules.specs.Discovery.{primaryService, characteristicT
 use Rattle.script_rules.specs.declared.Awaited.{Awaited}
 use Rattle.script_rules.specs.declared.Awaited.the-variants as awaited-variants
 use Rattle.script_rules.specs.Wait.{wanted, waitPasses, passedOn, passed, passing, checkOne, awaited, checkFor, checkWait}
-use Rattle.script_rules.specs.Start.{ends, waitsFor, startAlone, startUnlinked, forgotten, discoverIn, configuration, subscribeAt, subscribe, commanded, write, read, terminated, asksTo, disconnect, named, startLinked, start}
+use Rattle.script_rules.specs.Start.{ends, waitsFor, startAlone, startUnlinked, forgotten, discoverIn, configuration, subscribeAt, subscribe, commanded, write, read, terminated, asksTo, disconnect, named, startLinked, barred, startOn, start}
 use Rattle.script_rules.specs.Nearly.{Nearly}
 use Rattle.script_rules.specs.Timed.{milliseconds, narrow, Timed}
 use Rattle.script_rules.proofs.KeepTurns.{Stays, Goes, stays, then, quietly, stays-finish, stays-wait, goes-request}
@@ -356,10 +356,18 @@ module _ (k : ℕ) (w : World) (at : Micros) (few : k ≤ 64) (l : at .0 ≤ lat
   goes-linked (Capture enabled) e = goes-ends k w at few l ready f a Ok
   goes-linked (CaptureSecrets secrets) e = goes-ends k w at few l ready f a Ok
 
+  goes-over-link : Goes (k + 1) w (startOn w at (c .running .step))
+  unfolding startOn
+  goes-over-link = go (barred (c .options) (c .bearer) (c .running .step))
+    where
+      go : (b : Bool) → Goes (k + 1) w (pick b (onHeld w (ends (w .held) at BearerClosed)) (startLinked w at (c .running .step)))
+      go true = goes-ends k w at few l ready f a BearerClosed
+      go false = goes-linked (c .running .step) refl
+
   pub goes-start : Goes (k + 1) w (start w at)
   unfolding start
   goes-start = go (c .bearer .present)
     where
-      go : (b : Bool) → Goes (k + 1) w (pick b (startLinked w at (c .running .step)) (onHeld w (startUnlinked (w .held) at (c .running .step))))
-      go true = goes-linked (c .running .step) refl
+      go : (b : Bool) → Goes (k + 1) w (pick b (startOn w at (c .running .step)) (onHeld w (startUnlinked (w .held) at (c .running .step))))
+      go true = goes-over-link
       go false = quietly k w (startUnlinked (w .held) at (c .running .step)) ready (stays-unlinked (w .held) at l f a (c .running .step) refl)

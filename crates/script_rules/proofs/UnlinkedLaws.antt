@@ -10,7 +10,7 @@ use Rattle.script_rules.specs.World.{Held, World, onHeld}
 use Rattle.script_rules.specs.Finish.{ended, finish}
 use Rattle.script_rules.specs.declared.Alone.{Alone}
 use Rattle.script_rules.specs.declared.Alone.the-variants as alone
-use Rattle.script_rules.specs.Start.{unlinkedStep, startAlone, startUnlinked, startLinked, start}
+use Rattle.script_rules.specs.Start.{unlinkedStep, startAlone, startUnlinked, startOn, start}
 use Rattle.script_rules.specs.Waiting.{takeStep}
 use Rattle.script_rules.specs.Script.{canGo, stepOnce, advances, advance}
 use Rattle.script_rules.specs.Unlinked.{stepUnlinked, advancesUnlinked, advanceUnlinked}
@@ -41,7 +41,7 @@ unfolding start
 step-unlinked w at e =
     let g = takeStep (w .held) in
     let u = onHeld w g in
-    ap (λ (b : Bool). pick b (startLinked u at (g .state .running .step)) (onHeld u (startUnlinked g at (g .state .running .step)))) (present-take (w .held) ∙ e)
+    ap (λ (b : Bool). pick b (startOn u at (g .state .running .step)) (onHeld u (startUnlinked g at (g .state .running .step)))) (present-take (w .held) ∙ e)
 
 pub present-step : (h : Held) (at : Micros) → present h ≡ false → present (stepUnlinked h at) ≡ false
 present-step h at e = let g = takeStep h in present-alone g at (unlinkedStep (g .state .running .step)) ∙ present-take h ∙ e

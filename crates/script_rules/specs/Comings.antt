@@ -14,16 +14,20 @@ use Rattle.script_rules.specs.Start.{ends}
 use Rattle.state_kinds.specs.Kinds.{isScan, isWait, isDisconnect}
 pub use Rattle.state_kinds.specs.Kinds.{isConnect}
 pub use Rattle.script_rules.specs.Bearers.{linked, unlinked}
-pub use Rattle.script_rules.specs.Timeouts.{timedOut, due}
+pub use Rattle.script_rules.specs.Timeouts.{timedOut, due, closing}
 use Rattle.script_rules.specs.Outcome.{begins}
 use Rattle.script_rules.specs.Script.{advance}
 
 -- ---- the timer
 
+-- the bearer as the end of the running step by its deadline leaves it: what is awaited is read before the end clears it
+abbrev pub givenUp : Held → Held
+givenUp h = let c = h .state in onState h (withBearer c (closing (c .options) (c .running) (c .bearer)))
+
 unfoldable pub expire : World → Micros → World
 expire w at =
     let r = w .held .state .running in
-    pick (due r at) (advance (onHeld w (ends (w .held) at (timedOut (r .step)))) at) w
+    pick (due r at) (advance (onHeld w (ends (givenUp (w .held)) at (timedOut (r .step)))) at) w
 
 -- ---- a link comes
 

@@ -10,7 +10,7 @@ use Rattle.state_rules.specs.Gate.{gate, gateQuiet}
 use Rattle.state_rules.specs.Refusals.{accepted, counterFull}
 use Rattle.state_rules.specs.Fit.{mostLinks}
 use Rattle.script_rules.specs.Outcome.{Outcome, Quiet, begins, done, refused, quietly, quietlyRefused}
-pub use Rattle.script_rules.specs.Comings.{linked, unlinked, timedOut, due, isConnect, greeted, linkCounted, withNewLink, goesOn, cutStatus, silent}
+pub use Rattle.script_rules.specs.Comings.{linked, unlinked, timedOut, due, closing, givenUp, isConnect, greeted, linkCounted, withNewLink, goesOn, cutStatus, silent}
 unfoldable pub use Rattle.script_rules.specs.Comings.{expire, connect, cutOff, lose}
 
 unfoldable pub onTimer : Central → List ℕ → List ℕ → Micros → Outcome

@@ -1,6 +1,6 @@
 -- What each step does when it begins (the Rust's `start`; 01, 'Rules of the link').
 use Prim.Native.Nat.{ℕ, _+_, max}
-use mathlib.Core.Bool.{Bool, true, false}
+use mathlib.Core.Bool.{Bool, true, false, _&&_}
 use mathlib.Core.List.{List, [], _∷_}
 use lib.Dec.{ltb}
 use Rattle.bytes.specs.Choice.{pick}
@@ -23,11 +23,13 @@ use Rattle.gatt_characteristics.specs.declared.Which.{Which}
 use Rattle.gatt_characteristics.specs.declared.Which.the-variants.{At, Nothing}
 use Rattle.state.specs.Central.{Central, withRunning, withBearer, withServices, withCharacteristics}
 use Rattle.state.specs.declared.LinkRequest.the-variants.{Terminate}
+use Rattle.state.specs.declared.Bearer.{Bearer}
+use Rattle.state.specs.declared.Options.{Options}
 use Rattle.state.specs.declared.Step.{Step}
 use Rattle.state.specs.declared.Step.the-variants.{Scan, Connect, ExchangeMtu, DiscoverServices, DiscoverCharacteristics, Subscribe, Write, Read, WaitNotification, Wait, Disconnect, Capture, CaptureSecrets}
 use Rattle.state.specs.declared.StepStatus.{StepStatus}
-use Rattle.state.specs.declared.StepStatus.the-variants.{Ok, NotConnected, NotFound, TooLong}
-use Rattle.state_rules.specs.Steps.{defaultMtu, carries}
+use Rattle.state.specs.declared.StepStatus.the-variants.{Ok, NotConnected, NotFound, TooLong, BearerClosed}
+use Rattle.state_rules.specs.Steps.{defaultMtu, carries, attStep}
 use Rattle.script_rules.specs.World.{Held, Told, World, onHeld, onState}
 pub use Rattle.link_record.specs.Record.{terminated}
 use Rattle.script_rules.specs.Finish.{withLink, finish}
@@ -152,9 +154,21 @@ startLinked w at (CaptureSecrets secrets) = onHeld w (ends (w .held) at Ok)
 abbrev pub carried : Step → ℕ → ℕ
 carried step n = pick (carries step) n 0
 
+-- ---- on a bearer that an ATT timeout has closed (02, Four; Core Vol 3 Part F 3.3.3)
+
+-- a step that could send ATT; in the old mode none, whatever the flag says
+abbrev pub barred : Options → Bearer → Step → Bool
+barred o b step = o .strict && (b .closed && attStep step)
+
+-- it ends at once, before any lookup and before a discovery forgets what is known; every other step begins
+unfoldable pub startOn : World → Micros → Step → World
+startOn w at step =
+    let c = w .held .state in
+    pick (barred (c .options) (c .bearer) step) (onHeld w (ends (w .held) at BearerClosed)) (startLinked w at step)
+
 -- ---- either
 
 unfoldable pub start : World → Micros → World
 start w at =
     let c = w .held .state in
-    pick (c .bearer .present) (startLinked w at (c .running .step)) (onHeld w (startUnlinked (w .held) at (c .running .step)))
+    pick (c .bearer .present) (startOn w at (c .running .step)) (onHeld w (startUnlinked (w .held) at (c .running .step)))

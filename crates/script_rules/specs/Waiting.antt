@@ -74,6 +74,7 @@ takeStep h =
         services = c .services;
         characteristics = c .characteristics;
         notifications = c .notifications;
+        options = c .options;
       };
       store = moved (h .store) runningAt (waitingAt 0) (valueSize * c .queue .count);
     }

@@ -15,7 +15,7 @@ use Rattle.gatt_services.specs.declared.Which.{Which}
 use Rattle.gatt_services.specs.declared.Which.the-variants.{At, Nothing}
 use Rattle.state.specs.Central.{Central}
 use Rattle.state.specs.declared.Bearer.{Bearer}
-use Rattle.state.specs.declared.StepStatus.the-variants.{Ok, NotConnected}
+use Rattle.state.specs.declared.StepStatus.the-variants.{Ok, NotConnected, BearerClosed}
 use Rattle.state_rules.specs.Facts.{Fit}
 use Rattle.state_rules.proofs.FitLaws.{both}
 use Rattle.state_rules.specs.Steps.{implies, carries, mtuNamed, mostMtu, stepFits}
@@ -25,7 +25,7 @@ use Rattle.script_rules.specs.Discovery.{discoverServices, discoverCharacterist
 use Rattle.script_rules.specs.declared.Alone.{Alone}
 use Rattle.script_rules.specs.declared.Alone.the-variants as alone
 use Rattle.script_rules.specs.Wait.{Looks, checkWait}
-use Rattle.script_rules.specs.Start.{ends, waitsFor, unlinkedStep, startAlone, startUnlinked, discoverIn, terminated, asksTo, disconnect, carried, startLinked, start}
+use Rattle.script_rules.specs.Start.{ends, waitsFor, unlinkedStep, startAlone, startUnlinked, discoverIn, terminated, asksTo, disconnect, carried, startLinked, barred, startOn, start}
 use Rattle.state_core.specs.declared.Core.{Core}
 use Rattle.state_core.specs.declared.Turn.{Turn}
 use Rattle.state_core.specs.Reading.{central, held, world, withBearer}
@@ -61,20 +61,20 @@ module _ (w : World) (at : Micros) (x : Which) where
   service-unknown e = sym (ap (discoverIn w at) e)
 
 module _ (t : Turn) where
-  abbrev closing : Bearer
-  closing = withLink (t .core .bearer) (terminated (t .core .bearer .link))
+  abbrev ending : Bearer
+  ending = withLink (t .core .bearer) (terminated (t .core .bearer .link))
 
   abbrev ended : Bearer → (w s o : List ℕ) → World
   ended b w s o = record { held = held (withBearer (t .core) b) w s; told = asksTo (told (t .sent) o) }
 
-  by-flag : (w s o : List ℕ) (x : Bool) → t .core .bearer .link .terminating ≡ x → pick x (world t w s o) (ended closing w s o) ≡ disconnect (world t w s o)
+  by-flag : (w s o : List ℕ) (x : Bool) → t .core .bearer .link .terminating ≡ x → pick x (world t w s o) (ended ending w s o) ≡ disconnect (world t w s o)
   unfolding disconnect
-  by-flag w s o x h = ap (λ (y : Bool). pick y (world t w s o) (ended closing w s o)) (sym h)
+  by-flag w s o x h = ap (λ (y : Bool). pick y (world t w s o) (ended ending w s o)) (sym h)
 
   pub already : t .core .bearer .link .terminating ≡ true → (w s o : List ℕ) → world t w s o ≡ disconnect (world t w s o)
   already h w s o = by-flag w s o true h
 
-  pub asks-to-end : (b : Bearer) → t .core .bearer .link .terminating ≡ false → b ≡ closing → (w s o : List ℕ) → ended b w s o ≡ disconnect (world t w s o)
+  pub asks-to-end : (b : Bearer) → t .core .bearer .link .terminating ≡ false → b ≡ ending → (w s o : List ℕ) → ended b w s o ≡ disconnect (world t w s o)
   asks-to-end b h e w s o = ap (λ (z : Bearer). ended z w s o) e ∙ by-flag w s o false h
 
 pub looks-stay : (c a : Core) (w : List ℕ) (at : Micros) (ms : Millis) → ((v s : List ℕ) → held a v s ≡ waitsFor (held c v s) at ms)
@@ -105,7 +105,7 @@ carried-fits c f a =
 
 module _ (t : Turn) (w st out : List ℕ) (at : Micros) where
   abbrev linked : World
-  linked = startLinked (world t w st out) at (t .core .running .step)
+  linked = startOn (world t w st out) at (t .core .running .step)
 
   abbrev unlinked : World
   unlinked = onHeld (world t w st out) (startUnlinked (held (t .core) w st) at (t .core .running .step))
@@ -114,8 +114,24 @@ module _ (t : Turn) (w st out : List ℕ) (at : Micros) where
   unfolding start
   by-link y h = ap (λ (z : Bool). pick z linked unlinked) (sym h)
 
-  pub start-with : t .core .bearer .present ≡ true → linked ≡ start (world t w st out) at
-  start-with h = by-link true h
+  module _ (h : t .core .bearer .present ≡ true) (b : Bool) (e : b ≡ barred (t .core .options) (t .core .bearer) (t .core .running .step)) where
+    abbrev barring : World
+    barring = onHeld (world t w st out) (ends (held (t .core) w st) at BearerClosed)
+
+    abbrev begins : World
+    begins = startLinked (world t w st out) at (t .core .running .step)
+
+    by-bar : (y : Bool) → b ≡ y → pick y barring begins ≡ start (world t w st out) at
+    unfolding startOn
+    by-bar y k = ap (λ (z : Bool). pick z barring begins) (sym k ∙ e) ∙ by-link true h
+
+    pub start-barred : (u : Turn) (w' st' : List ℕ) → b ≡ true
+        → ((o : List ℕ) → world u w' st' o ≡ onHeld (world t w st o) (ends (held (t .core) w st) at BearerClosed))
+        → world u w' st' out ≡ start (world t w st out) at
+    start-barred u w' st' k g = g out ∙ by-bar true k
+
+    pub start-with : (u : Turn) (w' st' out' : List ℕ) → b ≡ false → world u w' st' out' ≡ begins → world u w' st' out' ≡ start (world t w st out) at
+    start-with u w' st' out' k g = g ∙ by-bar false k
 
   pub start-without : (c : Core) (w' st' : List ℕ) → t .core .bearer .present ≡ false
       → held c w' st' ≡ startUnlinked (held (t .core) w st) at (t .core .running .step)

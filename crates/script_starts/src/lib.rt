@@ -200,6 +200,10 @@ pub fn start(
     let running = core.running;
     let step = running.step;
     if bearer.present {
+        let options = core.options;
+        if script_alone::is_barred(options, bearer, step) {
+            return script_turns::end_turn(t, tables, store, at, StepStatus::BearerClosed);
+        }
         return start_linked(t, tables, store, out, at, step);
     }
     let next = start_unlinked(core, tables, store, at);

@@ -1,7 +1,9 @@
-// A step whose deadline has come: which it is, and how it ends.
+// A step whose deadline has come: which it is, and what its end leaves of its bearer.
 ghost use mathlib.Core.Path.{_≡_};
 ghost use Prim.Native.Nat.{_≤_};
-ghost use Rattle.script_rules.specs.Timeouts.{due};
+ghost use Rattle.script_rules.specs.Timeouts.{due, closing};
+use state::Bearer;
+use state::Options;
 use state::Running;
 use time::Micros;
 
@@ -11,4 +13,16 @@ pub fn is_due(r: Running, at: Micros) -> bool
 {
     let deadline = r.deadline;
     r.active & (r.dated & (deadline.0 <= at.0))
+}
+
+// The bearer of a step that its deadline ends: in strict mode it is closed, if the step's request is still awaited.
+pub fn closing(o: Options, r: Running, b: Bearer) -> Bearer
+    ensures { λ x. ⌜ x ≡ closing o r b ⌝ }
+{
+    let step = r.step;
+    let link = b.link;
+    let awaits = b.present & !(link.pending == 0);
+    let mut c = b;
+    c.closed = b.closed | (o.strict & (state_kinds::is_att(step) & awaits));
+    c
 }

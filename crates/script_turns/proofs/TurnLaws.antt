@@ -32,7 +32,7 @@ abbrev more-results : Counts → ℕ → Counts
 more-results n k = record { waiting = n .waiting; results = k; services = n .services; characteristics = n .characteristics; notifications = n .notifications }
 
 abbrev over : Core → Bearer → ℕ → Core
-over c b k = record { running = idle (c .running); bearer = b; counters = c .counters; counts = more-results (c .counts) k; reports = c .reports; «key_count» = c .«key_count» }
+over c b k = record { running = idle (c .running); bearer = b; counters = c .counters; counts = more-results (c .counts) k; reports = c .reports; «key_count» = c .«key_count»; options = c .options }
 
 module _ (c : Core) (w s : List ℕ) (at : Micros) (status : StepStatus) (from n heard : ℕ) where
   abbrev result : StepResult
@@ -69,7 +69,7 @@ run-law t c at ms e w s o = ap (λ (x : Held). record { held = x; told = record 
 
 pub asked-law : (c : Core) (at : Micros) (opcode : ℕ) (d : Micros) (r : Running) (b : Bearer) → d ≡ attDeadline at → r ≡ until (c .running) d
     → b ≡ withLink (c .bearer) (awaiting (c .bearer .link) opcode)
-    → (w : List ℕ) → central (record { running = r; bearer = b; counters = c .counters; counts = c .counts; reports = c .reports; «key_count» = c .«key_count» }) w ≡ asked (central c w) at opcode
+    → (w : List ℕ) → central (record { running = r; bearer = b; counters = c .counters; counts = c .counts; reports = c .reports; «key_count» = c .«key_count»; options = c .options }) w ≡ asked (central c w) at opcode
 asked-law c at opcode d r b e f g w = rw (f, e, g)
 
 pub request-law : (t : Turn) (c : Core) (sent : Sent) (at : Micros) (out out' pdu : List ℕ)

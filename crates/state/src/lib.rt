@@ -76,6 +76,8 @@ pub enum StepStatus {
     Disconnected,
     // A table had no place for what a head told of itself.
     TableFull,
+    // In strict mode: an earlier request on this link was never answered.
+    BearerClosed,
 }
 
 pub struct Queued {
@@ -124,11 +126,12 @@ pub struct Link {
     pub terminating: bool,
 }
 
-// The link, if it is present, and how many bytes are held of a frame.
+// The link, if it is present, how many bytes are held of a frame, and whether a request was given up on it (set in strict mode alone).
 pub struct Bearer {
     pub held: usize,
     pub link: Link,
     pub present: bool,
+    pub closed: bool,
 }
 
 // The present link has the number `links`.
@@ -168,6 +171,12 @@ pub struct Counts {
     pub services: usize,
     pub characteristics: usize,
     pub notifications: usize,
+}
+
+// What is chosen when a state is made. With none chosen it does what the Rust does.
+pub struct Options {
+    // After an ATT timeout no step sends ATT until the next link (Core Vol 3 Part F 3.3.3).
+    pub strict: bool,
 }
 
 // At most one in a call.

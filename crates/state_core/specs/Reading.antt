@@ -25,6 +25,7 @@ centralOf c t =
       services = record { kept = t .services; count = c .counts .services };
       characteristics = record { kept = t .characteristics; count = c .counts .characteristics };
       notifications = record { kept = t .notifications; count = c .counts .notifications };
+      options = c .options;
     }
 
 -- of a core and its words
@@ -40,13 +41,13 @@ world t w store out = record { held = held (t .core) w store; told = record { se
 -- ---- one part of the core replaced
 
 abbrev pub withRunning : Core → Running → Core
-withRunning c p = record { running = p; bearer = c .bearer; counters = c .counters; counts = c .counts; reports = c .reports; «key_count» = c .«key_count» }
+withRunning c p = record { running = p; bearer = c .bearer; counters = c .counters; counts = c .counts; reports = c .reports; «key_count» = c .«key_count»; options = c .options }
 
 abbrev pub withBearer : Core → Bearer → Core
-withBearer c p = record { running = c .running; bearer = p; counters = c .counters; counts = c .counts; reports = c .reports; «key_count» = c .«key_count» }
+withBearer c p = record { running = c .running; bearer = p; counters = c .counters; counts = c .counts; reports = c .reports; «key_count» = c .«key_count»; options = c .options }
 
 abbrev pub withCounters : Core → Counters → Core
-withCounters c p = record { running = c .running; bearer = c .bearer; counters = p; counts = c .counts; reports = c .reports; «key_count» = c .«key_count» }
+withCounters c p = record { running = c .running; bearer = c .bearer; counters = p; counts = c .counts; reports = c .reports; «key_count» = c .«key_count»; options = c .options }
 
 abbrev pub withCounts : Core → Counts → Core
-withCounts c p = record { running = c .running; bearer = c .bearer; counters = c .counters; counts = p; reports = c .reports; «key_count» = c .«key_count» }
+withCounts c p = record { running = c .running; bearer = c .bearer; counters = c .counters; counts = p; reports = c .reports; «key_count» = c .«key_count»; options = c .options }

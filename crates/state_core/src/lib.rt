@@ -2,10 +2,11 @@
 use state::Bearer;
 use state::Counters;
 use state::Counts;
+use state::Options;
 use state::Running;
 use state::Sent;
 
-// All of a state but its tables: the running step, the link, the counters, and how many places of each table are in use.
+// All of a state but its tables: the running step, the link, the counters, how many places of each table are in use, and what was chosen.
 pub struct Core {
     pub running: Running,
     pub bearer: Bearer,
@@ -13,6 +14,7 @@ pub struct Core {
     pub counts: Counts,
     pub reports: usize,
     pub key_count: usize,
+    pub options: Options,
 }
 
 // A call's work by value: the core as it stands, and what was sent on the way.

@@ -76,6 +76,6 @@ isDisconnect s = eqb (kindOf s) disconnect
 abbrev pub carries : Step → Bool
 carries s = eqb (kindOf s) write || eqb (kindOf s) waitNotification
 
--- the steps that send ATT requests: ExchangeMtu, either discovery, Subscribe, Write and Read
+-- the steps that could send ATT: ExchangeMtu, either discovery, Subscribe, Write with or without response, and Read
 abbrev pub attStep : Step → Bool
 attStep s = leb exchangeMtu (kindOf s) && leb (kindOf s) read

@@ -81,7 +81,7 @@ pub fn carries(step: Step) -> bool
     (kind == WRITE) | (kind == WAIT_NOTIFICATION)
 }
 
-// Whether a step sends ATT requests.
+// Whether a step could send ATT: requests, and a Write without response a command.
 pub fn is_att(step: Step) -> bool
     ensures { λ r. ⌜ r ≡ attStep step ⌝ }
 {

@@ -43,6 +43,7 @@ statusNumber (status.AttError code) = 4
 statusNumber status.TooLong = 5
 statusNumber status.Disconnected = 6
 statusNumber status.TableFull = 7
+statusNumber status.BearerClosed = 8
 
 abbrev pub statusCode : StepStatus → ℕ
 statusCode status.Ok = 0
@@ -53,6 +54,7 @@ statusCode (status.AttError code) = code
 statusCode status.TooLong = 0
 statusCode status.Disconnected = 0
 statusCode status.TableFull = 0
+statusCode status.BearerClosed = 0
 
 abbrev pub givenWords : Given → List ℕ
 givenWords (given.Refused why) = eight why 0 0 0 0 0 0 0

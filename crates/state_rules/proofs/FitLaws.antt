@@ -12,10 +12,11 @@ use Rattle.lists.specs.Queue.{all}
 use Rattle.notifications.specs.Kept.{live, valuesFit, linksFit}
 use Rattle.gatt_characteristics.specs.Characteristic.{known, rises, upFrom}
 use Rattle.state.specs.Central.{Central, withReports, withKeys}
-use Rattle.state.specs.Fresh.{freshCentral}
+use Rattle.state.specs.Fresh.{freshCentral, freshWith}
 use Rattle.state.specs.declared.Counts.{Counts}
 use Rattle.state.specs.declared.Counters.{Counters}
 use Rattle.state.specs.declared.Bearer.{Bearer}
+use Rattle.state.specs.declared.Options.{Options}
 use Rattle.state.specs.declared.Running.{Running}
 use Rattle.state.specs.declared.Reports.{Reports}
 use Rattle.state.specs.declared.Keys.{Keys}
@@ -339,6 +340,6 @@ fit-keys c k f q =
 
 -- ---- the fresh state
 
-pub fresh-fits : fits freshCentral ≡ true
+pub fresh-fits : (o : Options) → fits (freshWith o) ≡ true
 unfolding fits freshCentral countsFit all upFrom stepFits
-fresh-fits = refl
+fresh-fits o = refl

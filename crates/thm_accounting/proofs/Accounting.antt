@@ -17,6 +17,7 @@ use Rattle.lists.proofs.ScanLaws.{all-head, all-tail}
 use Rattle.lists.specs.Blocks.{Valued, valued, bytes}
 use Rattle.state.specs.Central.{withQueue, withCounters}
 use Rattle.state.specs.Fresh.{freshCentral}
+use Rattle.state.specs.declared.Options.{Options}
 use Rattle.state.specs.declared.Queue.{Queue}
 use Rattle.state.specs.declared.Running.{Running}
 use Rattle.state.specs.declared.Keys.{Keys}
@@ -275,11 +276,18 @@ books-run l q h (c ∷ cs) b =
     (subst (λ (t : List Queued). Books ((l ++ givenBy h c) ++ log g cs) t (run g cs)) (append-assoc q (takesIn h c) (taken g cs))
     (books-run (l ++ givenBy h c) (q ++ takesIn h c) g cs (books-call l q h c b)))
 
+-- with one call more
+pub taken-snoc : (h : Held) (cs : List Call) (c : Call) → taken h cs ++ takesIn (run h cs) c ≡ taken h (cs ++ (c ∷ []))
+taken-snoc h [] c = sym (append-nil (takesIn h c))
+taken-snoc h (d ∷ cs) c =
+    let g = left (does h d) in
+    append-assoc (takesIn h d) (taken g cs) (takesIn (run g cs) c) ∙ ap (λ (t : List Queued). takesIn h d ++ t) (taken-snoc g cs c)
+
 -- ---- from a fresh state, with any store
 
-pub books-fresh : (store : List ℕ) → Books [] [] (fresh store)
+pub books-fresh : (options : Options) (store : List ℕ) → Books [] [] (fresh options store)
 unfolding freshCentral valued newest
-books-fresh store =
+books-fresh options store =
     record {
       table = refl;
       order = tt;
@@ -291,6 +299,6 @@ books-fresh store =
       sizes = record { queue = refl; results = refl; reports = record { who = refl; at = refl; channel = refl; pdu = refl; len = refl; response = refl }; keys = refl };
     }
 
-module _ (store : List ℕ) (cs : List Call) where
-  pub books : Books (log (fresh store) cs) (taken (fresh store) cs) (run (fresh store) cs)
-  books = books-run [] [] (fresh store) cs (books-fresh store)
+module _ (options : Options) (store : List ℕ) (cs : List Call) where
+  pub books : Books (log (fresh options store) cs) (taken (fresh options store) cs) (run (fresh options store) cs)
+  books = books-run [] [] (fresh options store) cs (books-fresh options store)

@@ -24,7 +24,7 @@ use Rattle.state.specs.Central.{Central, withCounters, withBearer}
 use Rattle.state.specs.declared.Step.{Step}
 use Rattle.state.specs.declared.Step.the-variants.{Scan, Connect, ExchangeMtu, DiscoverServices, DiscoverCharacteristics, Subscribe, Write, Read, WaitNotification, Wait, Disconnect, Capture, CaptureSecrets}
 use Rattle.state.specs.declared.StepStatus.{StepStatus}
-use Rattle.state.specs.declared.StepStatus.the-variants.{Ok, TooLong}
+use Rattle.state.specs.declared.StepStatus.the-variants.{Ok, TooLong, BearerClosed}
 use Rattle.script_rules.specs.World.{Held, World, onHeld, onState}
 use Rattle.script_rules.specs.Finish.{withLink}
 use Rattle.script_rules.specs.Send.{request}
@@ -37,7 +37,7 @@ use Rattle.script_rules.specs.declared.Alone.the-variants as alone
 use Rattle.script_rules.specs.declared.Awaited.{Awaited}
 use Rattle.script_rules.specs.declared.Awaited.the-variants as awaited-variants
 use Rattle.script_rules.specs.Wait.{wanted, waitPasses, passedOn, passed, passing, checkOne, awaited, checkFor, checkWait}
-use Rattle.script_rules.specs.Start.{ends, waitsFor, unlinkedStep, startAlone, startUnlinked, forgotten, discoverIn, subscribeAt, subscribe, commanded, write, read, terminated, asksTo, disconnect, startLinked, start}
+use Rattle.script_rules.specs.Start.{ends, waitsFor, unlinkedStep, startAlone, startUnlinked, forgotten, discoverIn, subscribeAt, subscribe, commanded, write, read, terminated, asksTo, disconnect, startLinked, barred, startOn, start}
 use Rattle.thm_accounting.proofs.Gives.{Whole, Gives, nothing, gives-none, gives-then, Apart, apart, apart-state, gives-finish, whole-same}
 
 -- the step ends with no value
@@ -182,12 +182,13 @@ gives-linked w at (Capture enabled) k = gives-ends (w .held) at Ok k
 gives-linked w at (CaptureSecrets secrets) k = gives-ends (w .held) at Ok k
 
 pub gives-start : (w : World) (at : Micros) → Whole (w .held) → Gives at (w .held) (start w at .held)
-unfolding start
-gives-start w at k = go (w .held .state .bearer .present)
+unfolding start startOn
+gives-start w at k = go (w .held .state .bearer .present) (barred (w .held .state .options) (w .held .state .bearer) s)
   where
     s : Step
     s = w .held .state .running .step
 
-    go : (b : Bool) → Gives at (w .held) (pick b (startLinked w at s) (onHeld w (startUnlinked (w .held) at s)) .held)
-    go true = gives-linked w at s k
-    go false = gives-alone (w .held) at (unlinkedStep s) k
+    go : (b c : Bool) → Gives at (w .held) (pick b (pick c (onHeld w (ends (w .held) at BearerClosed)) (startLinked w at s)) (onHeld w (startUnlinked (w .held) at s)) .held)
+    go true true = gives-ends (w .held) at BearerClosed k
+    go true false = gives-linked w at s k
+    go false c = gives-alone (w .held) at (unlinkedStep s) k

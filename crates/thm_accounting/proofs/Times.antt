@@ -8,6 +8,7 @@ use lib.ListN.{length, getD}
 use Rattle.bytes.specs.Choice.{pick}
 use Rattle.lists.specs.Blocks.{Valued}
 use Rattle.time.specs.declared.Micros.{Micros}
+use Rattle.state.specs.declared.Options.{Options}
 use Rattle.state.specs.declared.Queued.{Queued}
 use Rattle.state.specs.declared.StepResult.{StepResult}
 use Rattle.script_rules.specs.World.{Held, World, onHeld}
@@ -89,8 +90,8 @@ stamped-call l q h c b = go (done? h c) refl
     go false e = tt
 
 -- of every sequence, and a call after it
-pub result-time : (store : List ℕ) (cs : List Call) (c : Call) (i : ℕ) → i < length (givenBy (run (fresh store) cs) c)
-    → getD (givenBy (run (fresh store) cs) c) i noValued .entry .at ≡ timeOf c
-result-time store cs c i h =
-    stamped-at (timeOf c) (givenBy (run (fresh store) cs) c) i
-    (stamped-call (log (fresh store) cs) (taken (fresh store) cs) (run (fresh store) cs) c (books store cs)) h
+pub result-time : (options : Options) (store : List ℕ) (cs : List Call) (c : Call) (i : ℕ) → i < length (givenBy (run (fresh options store) cs) c)
+    → getD (givenBy (run (fresh options store) cs) c) i noValued .entry .at ≡ timeOf c
+result-time options store cs c i h =
+    stamped-at (timeOf c) (givenBy (run (fresh options store) cs) c) i
+    (stamped-call (log (fresh options store) cs) (taken (fresh options store) cs) (run (fresh options store) cs) c (books options store cs)) h

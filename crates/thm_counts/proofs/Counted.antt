@@ -11,6 +11,7 @@ use Rattle.bytes.specs.Choice.{pick}
 use Rattle.lists.specs.Blocks.{Valued}
 use Rattle.state.specs.Fresh.{freshCentral}
 use Rattle.state.specs.declared.Counters.{Counters}
+use Rattle.state.specs.declared.Options.{Options}
 use Rattle.state.specs.declared.Queued.{Queued}
 use Rattle.state.specs.declared.StepResult.{StepResult}
 use Rattle.state_rules.specs.Refusals.{longFrame}
@@ -124,24 +125,24 @@ counted-run l q h (c ∷ cs) b =
     let n = length-append (takesIn h c) (taken g cs) in
     record { notified = omega (arith, x .notified, y .notified); refused = omega (arith, n, x .refused, y .refused); links = omega (arith, x .links, y .links) }
 
-module _ (store : List ℕ) (cs : List Call) where
+module _ (options : Options) (store : List ℕ) (cs : List Call) where
   -- the steps taken in and the steps refused are all that were handed in
-  pub refused-counted : run (fresh store) cs .state .counters .«refused_steps» + length (taken (fresh store) cs) ≡ handedIn (fresh store) cs
+  pub refused-counted : run (fresh options store) cs .state .counters .«refused_steps» + length (taken (fresh options store) cs) ≡ handedIn (fresh options store) cs
   unfolding freshCentral
   refused-counted =
-      let none-yet : fresh store .state .counters .«refused_steps» ≡ 0 = refl in
-      omega (arith, none-yet, counted-run [] [] (fresh store) cs (books-fresh store) .refused)
+      let none-yet : fresh options store .state .counters .«refused_steps» ≡ 0 = refl in
+      omega (arith, none-yet, counted-run [] [] (fresh options store) cs (books-fresh options store) .refused)
 
   -- and as many are notified as were heard
-  pub notified-counted : run (fresh store) cs .state .counters .notified ≡ countedIn noticed (fresh store) cs
+  pub notified-counted : run (fresh options store) cs .state .counters .notified ≡ countedIn noticed (fresh options store) cs
   unfolding freshCentral
   notified-counted =
-      let none-yet : fresh store .state .counters .notified ≡ 0 = refl in
-      omega (arith, none-yet, counted-run [] [] (fresh store) cs (books-fresh store) .notified)
+      let none-yet : fresh options store .state .counters .notified ≡ 0 = refl in
+      omega (arith, none-yet, counted-run [] [] (fresh options store) cs (books-fresh options store) .notified)
 
   -- and as many links are counted as came
-  pub links-counted : run (fresh store) cs .state .counters .links ≡ countedIn linksCame (fresh store) cs
+  pub links-counted : run (fresh options store) cs .state .counters .links ≡ countedIn linksCame (fresh options store) cs
   unfolding freshCentral
   links-counted =
-      let none-yet : fresh store .state .counters .links ≡ 0 = refl in
-      omega (arith, none-yet, counted-run [] [] (fresh store) cs (books-fresh store) .links)
+      let none-yet : fresh options store .state .counters .links ≡ 0 = refl in
+      omega (arith, none-yet, counted-run [] [] (fresh options store) cs (books-fresh options store) .links)

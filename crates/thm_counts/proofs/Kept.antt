@@ -25,7 +25,7 @@ use Rattle.state.specs.declared.Counters.{Counters}
 use Rattle.state.specs.declared.Step.{Step}
 use Rattle.state.specs.declared.Step.the-variants.{Scan, Connect, ExchangeMtu, DiscoverServices, DiscoverCharacteristics, Subscribe, Write, Read, WaitNotification, Wait, Disconnect, Capture, CaptureSecrets}
 use Rattle.state.specs.declared.StepStatus.{StepStatus}
-use Rattle.state.specs.declared.StepStatus.the-variants.{Ok, TooLong}
+use Rattle.state.specs.declared.StepStatus.the-variants.{Ok, TooLong, BearerClosed}
 use Rattle.script_rules.specs.World.{Held, World, onHeld, onState}
 use Rattle.script_rules.specs.Finish.{ended, finish, withLink}
 use Rattle.script_rules.specs.Send.{request}
@@ -39,7 +39,7 @@ use Rattle.script_rules.specs.declared.Alone.the-variants as alone
 use Rattle.script_rules.specs.declared.Awaited.{Awaited}
 use Rattle.script_rules.specs.declared.Awaited.the-variants as awaited-variants
 use Rattle.script_rules.specs.Wait.{wanted, waitPasses, passedOn, passed, passing, checkOne, awaited, checkFor, checkWait}
-use Rattle.script_rules.specs.Start.{ends, waitsFor, unlinkedStep, startAlone, startUnlinked, forgotten, discoverIn, subscribeAt, subscribe, commanded, write, read, terminated, asksTo, disconnect, startLinked, start}
+use Rattle.script_rules.specs.Start.{ends, waitsFor, unlinkedStep, startAlone, startUnlinked, forgotten, discoverIn, subscribeAt, subscribe, commanded, write, read, terminated, asksTo, disconnect, startLinked, barred, startOn, start}
 
 pub record Kept (h g : Held) : Type 0 where
   pub notified : g .state .counters .notified ≡ h .state .counters .notified
@@ -209,12 +209,13 @@ kept-linked w at (Capture enabled) = kept-ends (w .held) at Ok
 kept-linked w at (CaptureSecrets secrets) = kept-ends (w .held) at Ok
 
 pub kept-start : (w : World) (at : Micros) → Kept (w .held) (start w at .held)
-unfolding start
-kept-start w at = go (w .held .state .bearer .present)
+unfolding start startOn
+kept-start w at = go (w .held .state .bearer .present) (barred (w .held .state .options) (w .held .state .bearer) s)
   where
     s : Step
     s = w .held .state .running .step
 
-    go : (b : Bool) → Kept (w .held) (pick b (startLinked w at s) (onHeld w (startUnlinked (w .held) at s)) .held)
-    go true = kept-linked w at s
-    go false = kept-alone (w .held) at (unlinkedStep s)
+    go : (b c : Bool) → Kept (w .held) (pick b (pick c (onHeld w (ends (w .held) at BearerClosed)) (startLinked w at s)) (onHeld w (startUnlinked (w .held) at s)) .held)
+    go true true = kept-ends (w .held) at BearerClosed
+    go true false = kept-linked w at s
+    go false c = kept-alone (w .held) at (unlinkedStep s)

@@ -11,7 +11,9 @@ use Rattle.lists.specs.Queue.{all}
 use Rattle.time.specs.declared.Micros.{Micros}
 use Rattle.time.specs.Clock.{latest}
 use Rattle.state.specs.Central.{Central, withBearer}
-use Rattle.state.specs.Fresh.{freshCentral}
+use Rattle.state.specs.Fresh.{freshCentral, freshWith}
+use Rattle.state.specs.declared.Options.{Options}
+use Rattle.state.specs.declared.StepStatus.{StepStatus}
 use Rattle.state_rules.specs.Facts.{Fit}
 use Rattle.state_rules.proofs.FitLaws as fit
 use Rattle.state_rules.specs.Fit.{mostLinks}
@@ -27,7 +29,7 @@ use Rattle.script_rules.specs.Sound.{Sound, Whole}
 use Rattle.script_rules.proofs.KeepTurns.{Stays, then, timed-of, narrow-of, stays-absent}
 use Rattle.script_rules.proofs.KeepWaiting.{push-all-timed}
 use Rattle.script_rules.proofs.KeepStarts.{stays-ends}
-use Rattle.script_rules.proofs.KeepEvents.{stays-met}
+use Rattle.script_rules.proofs.KeepEvents.{stays-late, stays-met}
 use Rattle.script_rules.specs.Script.{advance}
 use Rattle.script_rules.proofs.AdvanceLaws.{advanced, advanced-alone}
 use Rattle.script_rules.proofs.UnlinkedLaws.{present-finish, advance-unlinked}
@@ -35,7 +37,7 @@ use Rattle.script_rules.specs.Outcome.{Outcome, Quiet, begins, done, refused, q
 use Rattle.script_rules.proofs.CallBeginLaws.{sound-stays, whole-stays, may-begin, may-begin-quietly, may-connect}
 use Rattle.script_rules.specs.Batch.{gateBatch, pushSteps}
 use Rattle.script_rules.proofs.CallLaws.{passed-batch, pushed-sound}
-use Rattle.script_rules.specs.Events.{timedOut, due, expire, onTimer, greeted, withNewLink, gateConnected, connect, onConnected, unlinked, goesOn, cutStatus, cutOff, silent, lose, onDisconnected}
+use Rattle.script_rules.specs.Events.{timedOut, due, givenUp, expire, onTimer, greeted, withNewLink, gateConnected, connect, onConnected, unlinked, goesOn, cutStatus, cutOff, silent, lose, onDisconnected}
 use Rattle.thm_fit.specs.Lasting.{Lasting, narrowBatch}
 
 -- the same as facts
@@ -64,8 +66,11 @@ module _ (at : Micros) (time : at .0 ≤ latest) where
   unfolding expire
   expired w s k = by (due (w .held .state .running) at)
     where
-      by : (b : Bool) → Kept (pick b (advance (onHeld w (ends (w .held) at (timedOut (w .held .state .running .step)))) at) w .held .state)
-      by true = goes-on w (ends (w .held) at (timedOut (w .held .state .running .step))) s (k .timed) (stays-ends (w .held) at (timedOut (w .held .state .running .step)) (s .nearly))
+      st : StepStatus
+      st = timedOut (w .held .state .running .step)
+
+      by : (b : Bool) → Kept (pick b (advance (onHeld w (ends (givenUp (w .held)) at st)) at) w .held .state)
+      by true = goes-on w (ends (givenUp (w .held)) at st) s (k .timed) (stays-late (w .held) at st (s .nearly))
       by false = k
 
   connected : (w : World) (handle : ℕ) → w .held .state .counters .links < mostLinks → Sound 65 w → Kept (w .held .state) → Kept (connect w handle at .held .state)
@@ -99,9 +104,10 @@ module _ (at : Micros) (time : at .0 ≤ latest) where
 
 -- ---- the fresh state, and each call
 
-pub fresh-lasts : Lasting freshCentral
+-- whatever was chosen
+pub fresh-lasts : (options : Options) → Lasting (freshWith options)
 unfolding freshCentral all
-fresh-lasts = record { fit = fit.fresh-fits; narrow = record { running = λ p. absurd (false≢true p); waiting = refl } }
+fresh-lasts options = record { fit = fit.fresh-fits options; narrow = record { running = λ p. absurd (false≢true p); waiting = refl } }
 
 module _ (c : Central) (l : Lasting c) (store : List ℕ) where
   pub push-steps-lasts : (out : List ℕ) (at : Micros) (b : Batch) (values : List ℕ) → narrowBatch b ≡ true → Lasting (pushSteps c store out at b values .state)

@@ -13,13 +13,13 @@ use Rattle.script_rules.specs.Sound.{Sound}
 use Rattle.script_rules.specs.Script.{canGo, stepOnce}
 use Rattle.thm_trail.specs.Trail.{News, Pass, pass, onwards, onward}
 use Rattle.thm_trail.specs.Log.{gave}
-use Rattle.thm_trail.proofs.Hops.{Still, still-values}
-use Rattle.thm_accounting.proofs.Gives.{kept-values}
-use Rattle.thm_accounting.proofs.Books.{Books, whole}
+use Rattle.thm_trail.proofs.Hops.{Still}
+use Rattle.thm_accounting.proofs.Books.{Books}
 use Rattle.thm_requests.specs.Events.{Event, askedIn, newsOf, resultsOf, doneIn, doneAlong}
 use Rattle.thm_requests.proofs.Along.{eventsIn, eventsAlong}
 use Rattle.thm_requests.proofs.Asks.{itself}
-use Rattle.thm_requests.proofs.Watch.{sent-none, none-gave}
+use Rattle.thm_requests.proofs.Watch.{sent-none}
+use Rattle.thm_requests.proofs.Good.{still-gave}
 
 -- what came in along a trail
 abbrev pub newsAlong : List Pass → List News
@@ -89,4 +89,4 @@ pub done-still : (l : List (Valued StepResult)) (q : List Queued) (w : World) (g
 done-still l q w g s b t =
     let v = onHeld w g in
     ap (λ x. askedIn (g .state .running .index) x ++ resultsOf (gave (w .held) g)) (sent-none w v (itself (w .told)))
-    ∙ ap resultsOf (none-gave l q (w .held) g b (kept-values (w .held) g (whole w s (b .sizes)) (t .results) (still-values t)))
+    ∙ ap resultsOf (still-gave l q w g s b t)

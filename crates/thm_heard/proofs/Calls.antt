@@ -34,9 +34,10 @@ use Rattle.script_rules.specs.Waiting.{waiting, queueing, refusing, pushOne, pu
 use Rattle.script_rules.specs.Start.{ends, start}
 use Rattle.script_rules.specs.Sound.{Sound}
 use Rattle.script_rules.specs.Script.{canGo, stepOnce}
-use Rattle.script_rules.specs.Events.{timedOut, due, isConnect, goesOn, cutStatus}
+use Rattle.script_rules.specs.Events.{timedOut, due, givenUp, isConnect, goesOn, cutStatus}
 use Rattle.script_rules.proofs.KeepTurns.{Stays}
 use Rattle.script_rules.proofs.KeepStarts.{stays-ends}
+use Rattle.script_rules.proofs.KeepEvents.{stays-given-up}
 use Rattle.script_rules.proofs.CallBeginLaws.{sound-stays, passed-connected}
 use Rattle.script_rules.proofs.CallLaws.{passed-batch}
 use Rattle.radio_rules.specs.Hearing as radio
@@ -93,6 +94,10 @@ keeps-over w at st t s = keeps-then (keeps-ends (w .held) at st) (keeps-onward (
 
 -- ---- the timer, a link that comes, a link that goes
 
+tied-given-up : (a : Air) (h : Held) → Tied a h → Tied a (givenUp h)
+tied-given-up silence h t = t
+tied-given-up (link handle partial) h t = record { present = t .present; named = t .named; held = t .held; there = t .there }
+
 timer-hearing : (a : Air) (w : World) (at : Micros) → at .0 ≤ latest → Sound 65 w → Tied a (w .held) → Hearing w (timerTrail w at) [] a
 unfolding timerTrail
 timer-hearing a w at t s k = go (due (w .held .state .running) at)
@@ -100,11 +105,17 @@ timer-hearing a w at t s k = go (due (w .held .state .running) at)
     st : StepStatus
     st = timedOut (w .held .state .running .step)
 
-    v : World
-    v = onHeld w (ends (w .held) at st)
+    u : World
+    u = onHeld w (givenUp (w .held))
 
-    go : (b : Bool) → Hearing w (pick b (thenOnward v at) []) [] a
-    go true = record { brings = brings-quiet w (thenOnward v at) (refl, quiet-onward v at); tied = tied-keeps a (keeps-over w at st t s) k }
+    v : World
+    v = onHeld u (ends (u .held) at st)
+
+    sound : Sound 65 u
+    sound = sound-stays 65 w (u .held) s (stays-given-up (w .held) (s .nearly))
+
+    go : (b : Bool) → Hearing w (pick b (pass u ∷ thenOnward v at) []) [] a
+    go true = record { brings = brings-quiet w (pass u ∷ thenOnward v at) (refl, (refl, quiet-onward v at)); tied = tied-keeps a (keeps-over u at st t sound) (tied-given-up a (w .held) k) }
     go false = record { brings = brings-quiet w [] tt; tied = k }
 
 connected-hearing : (w : World) (handle : ℕ) (at : Micros) → at .0 ≤ latest → w .held .state .counters .links < mostLinks → Sound 65 w
@@ -173,10 +184,10 @@ keeps-push h values p m = go (ltb n mostSteps) refl
         (record { state = withCounters (h .state) (refusing (h .state .counters)); store = h .store }))
     go true e =
         let r : n < mostSteps = ltb-true n mostSteps e in
-        record { bears = record { held = refl; present = refl; handle = refl }; above = drop-past (h .store) (waitingAt n) values (p .place) (valueLen p) heldAt (omega (arith, r, m)) }
-    go false e = record { bears = record { held = refl; present = refl; handle = refl }; above = refl }
+        record { bears = record { held = refl; present = refl; closed = refl; handle = refl; options = refl }; above = drop-past (h .store) (waitingAt n) values (p .place) (valueLen p) heldAt (omega (arith, r, m)) }
+    go false e = record { bears = record { held = refl; present = refl; closed = refl; handle = refl; options = refl }; above = refl }
 
-keeps-pushes : (size : ℕ) (h : Held) (values : List ℕ) (ps : List Placed) → all (placedFits size) ps ≡ true → Keeps h (pushAll h values ps)
+pub keeps-pushes : (size : ℕ) (h : Held) (values : List ℕ) (ps : List Placed) → all (placedFits size) ps ≡ true → Keeps h (pushAll h values ps)
 unfolding pushAll
 keeps-pushes size h values [] f = keeps-none h
 keeps-pushes size h values (p ∷ ps) f =

@@ -91,13 +91,14 @@ module _ (w : World) (at : Micros) where
 after : (w : World) (c : Central) (v : World) → Bears (w .held) (become w c .held) → Bears (become w c .held) (v .held) → Bears (w .held) (v .held)
 after w c v e f = bears-then e f
 
--- none of the three is touched
-untouched : {h g : Held} → g .state .bearer .held ≡ h .state .bearer .held → g .state .bearer .present ≡ h .state .bearer .present → g .state .bearer .link .handle ≡ h .state .bearer .link .handle → Bears h g
-untouched a b c = record { held = a; present = b; handle = c }
+-- none of them is touched
+untouched : {h g : Held} → g .state .bearer .held ≡ h .state .bearer .held → g .state .bearer .present ≡ h .state .bearer .present → g .state .bearer .closed ≡ h .state .bearer .closed
+    → g .state .bearer .link .handle ≡ h .state .bearer .link .handle → g .state .options ≡ h .state .options → Bears h g
+untouched a b c d e = record { held = a; present = b; closed = c; handle = d; options = e }
 
 bears-services-found : (w : World) (at : Micros) (g : Goal) (f : services-found.Found) → Bears (w .held) (servicesFound w at g f .held)
 unfolding servicesFound
-bears-services-found w at g f = after w (withServices (w .held .state) (f .table)) (servicesFound w at g f) (untouched refl refl refl) (go (f .full) (eqb (f .last) lastHandle))
+bears-services-found w at g f = after w (withServices (w .held .state) (f .table)) (servicesFound w at g f) (untouched refl refl refl refl refl) (go (f .full) (eqb (f .last) lastHandle))
   where
     v : World
     v = become w (withServices (w .held .state) (f .table))
@@ -118,7 +119,7 @@ bears-services-heard w at g n size = go (ltb size 6)
 bears-characteristics-found : (w : World) (at : Micros) (svc : Service) (f : characteristics-found.Found) → Bears (w .held) (characteristicsFound w at svc f .held)
 unfolding characteristicsFound
 bears-characteristics-found w at svc f =
-    after w (withCharacteristics (w .held .state) (f .table)) (characteristicsFound w at svc f) (untouched refl refl refl) (go (f .full) (leb (svc .end) (f .last)))
+    after w (withCharacteristics (w .held .state) (f .table)) (characteristicsFound w at svc f) (untouched refl refl refl refl refl) (go (f .full) (leb (svc .end) (f .last)))
   where
     v : World
     v = become w (withCharacteristics (w .held .state) (f .table))
@@ -141,7 +142,7 @@ bears-characteristics-heard w at n size (which-service.At svc) = go (ltb size 7)
 
 bears-descriptors-found : (w : World) (at : Micros) (svc : Service) (x : Named) → Bears (w .held) (descriptorsFound w at svc x .held)
 bears-descriptors-found w at svc x =
-    after w (withCharacteristics (w .held .state) (x .table)) (descriptorsFound w at svc x) (untouched refl refl refl)
+    after w (withCharacteristics (w .held .state) (x .table)) (descriptorsFound w at svc x) (untouched refl refl refl refl refl)
     (bears-go-on (become w (withCharacteristics (w .held .state) (x .table))) at svc (x .«next»))
 
 bears-descriptors-heard : (w : World) (at : Micros) (n format : ℕ) (x : service-which.Which) → Bears (w .held) (descriptorsHeard w at n format x .held)
@@ -162,7 +163,7 @@ bears-present : (w : World) (at : Micros) (n : ℕ) (a : Asked) → Bears (w .he
 unfolding present
 bears-present w at n (asked-variants.Mtu mtu) =
     let c = withMtu (w .held .state) (smallerMtu (leAt 2 (payload (w .held) n) 1) mtu) in
-    after w c (over (become w c) at Ok) (untouched refl refl refl) (bears-over (become w c) at Ok)
+    after w c (over (become w c) at Ok) (untouched refl refl refl refl refl) (bears-over (become w c) at Ok)
 bears-present w at n (asked-variants.Services g) = bears-services-heard w at g n _
 bears-present w at n (asked-variants.Characteristics u) = bears-characteristics-heard w at n _ _
 bears-present w at n (asked-variants.Descriptors u) = bears-descriptors-heard w at n _ _
@@ -198,14 +199,14 @@ bears-response w at n = go (counts (w .held .state .bearer .link .pending) (payl
     c = unasked (w .held .state)
 
     go : (b : Bool) → Bears (w .held) (pick b (taken (become w c) at n) w .held)
-    go true = after w c (taken (become w c) at n) (untouched refl refl refl) (bears-taken (become w c) at n)
+    go true = after w c (taken (become w c) at n) (untouched refl refl refl refl refl) (bears-taken (become w c) at n)
     go false = bears-none (w .held)
 
 -- ---- a frame as a whole
 
 bears-keep : (h : Held) (at : Micros) (handle n : ℕ) (indication : Bool) → Bears h (keepOne h at handle n indication)
 unfolding keepOne
-bears-keep h at handle n indication = untouched refl refl refl
+bears-keep h at handle n indication = untouched refl refl refl refl refl
 
 bears-notice : (w : World) (at : Micros) (n : ℕ) (indication : Bool) → Bears (w .held) (notice w at n indication .held)
 unfolding notice
@@ -215,7 +216,7 @@ bears-notice w at n indication =
 
 bears-exchange : (w : World) (theirs : ℕ) → Bears (w .held) (exchange w theirs .held)
 unfolding exchange
-bears-exchange w theirs = untouched refl refl refl
+bears-exchange w theirs = untouched refl refl refl refl refl
 
 bears-opcode : (w : World) (at : Micros) (n op handle : ℕ) → Bears (w .held) (byOpcode w at n op handle .held)
 unfolding byOpcode

@@ -31,7 +31,7 @@ use Rattle.state.specs.Central.{Central, withCounters, withBearer}
 use Rattle.state.specs.declared.Step.{Step}
 use Rattle.state.specs.declared.Step.the-variants.{Scan, Connect, ExchangeMtu, DiscoverServices, DiscoverCharacteristics, Subscribe, Write, Read, WaitNotification, Wait, Disconnect, Capture, CaptureSecrets}
 use Rattle.state.specs.declared.StepStatus.{StepStatus}
-use Rattle.state.specs.declared.StepStatus.the-variants.{Ok, TooLong}
+use Rattle.state.specs.declared.StepStatus.the-variants.{Ok, TooLong, BearerClosed}
 use Rattle.script_rules.specs.World.{Held, World, onHeld, onState}
 use Rattle.script_rules.specs.Finish.{resultPart, ended, finish, withLink}
 use Rattle.script_rules.specs.Send.{request}
@@ -45,13 +45,15 @@ use Rattle.script_rules.specs.declared.Alone.the-variants as alone
 use Rattle.script_rules.specs.declared.Awaited.{Awaited}
 use Rattle.script_rules.specs.declared.Awaited.the-variants as awaited-variants
 use Rattle.script_rules.specs.Wait.{wanted, waitPasses, passedOn, passed, passing, checkOne, awaited, checkFor, checkWait}
-use Rattle.script_rules.specs.Start.{ends, waitsFor, unlinkedStep, startAlone, startUnlinked, forgotten, discoverIn, subscribeAt, subscribe, commanded, write, read, terminated, asksTo, disconnect, startLinked, start}
+use Rattle.script_rules.specs.Start.{ends, waitsFor, unlinkedStep, startAlone, startUnlinked, forgotten, discoverIn, subscribeAt, subscribe, commanded, write, read, terminated, asksTo, disconnect, startLinked, barred, startOn, start}
 
--- the link, its handle and the number of bytes held are as they were
+-- the link, its handle, the number of bytes held, whether the bearer is closed and what was chosen are as they were
 pub record Bears (h g : Held) : Type 0 where
   pub held : g .state .bearer .held ≡ h .state .bearer .held
   pub present : g .state .bearer .present ≡ h .state .bearer .present
+  pub closed : g .state .bearer .closed ≡ h .state .bearer .closed
   pub handle : g .state .bearer .link .handle ≡ h .state .bearer .link .handle
+  pub options : g .state .options ≡ h .state .options
 
 -- and so is every byte of the store from those held on
 pub record Keeps (h g : Held) : Type 0 where
@@ -59,10 +61,10 @@ pub record Keeps (h g : Held) : Type 0 where
   pub above : drop heldAt (g .store) ≡ drop heldAt (h .store)
 
 pub bears-none : (h : Held) → Bears h h
-bears-none h = record { held = refl; present = refl; handle = refl }
+bears-none h = record { held = refl; present = refl; closed = refl; handle = refl; options = refl }
 
 pub bears-then : {h g i : Held} → Bears h g → Bears g i → Bears h i
-bears-then a b = record { held = b .held ∙ a .held; present = b .present ∙ a .present; handle = b .handle ∙ a .handle }
+bears-then a b = record { held = b .held ∙ a .held; present = b .present ∙ a .present; closed = b .closed ∙ a .closed; handle = b .handle ∙ a .handle; options = b .options ∙ a .options }
 
 pub keeps-none : (h : Held) → Keeps h h
 keeps-none h = record { bears = bears-none h; above = refl }
@@ -71,9 +73,9 @@ pub keeps-then : {h g i : Held} → Keeps h g → Keeps g i → Keeps h i
 keeps-then a b = record { bears = bears-then (a .bears) (b .bears); above = b .above ∙ a .above }
 
 -- a change of other parts of the state
-pub still : {h : Held} {c : Central} → c .bearer .held ≡ h .state .bearer .held → c .bearer .present ≡ h .state .bearer .present → c .bearer .link .handle ≡ h .state .bearer .link .handle
-    → Keeps h (onState h c)
-still a b c = record { bears = record { held = a; present = b; handle = c }; above = refl }
+pub still : {h : Held} {c : Central} → c .bearer .held ≡ h .state .bearer .held → c .bearer .present ≡ h .state .bearer .present → c .bearer .closed ≡ h .state .bearer .closed
+    → c .bearer .link .handle ≡ h .state .bearer .link .handle → c .options ≡ h .state .options → Keeps h (onState h c)
+still a b c d e = record { bears = record { held = a; present = b; closed = c; handle = d; options = e }; above = refl }
 
 -- ---- the store below what is held
 
@@ -92,7 +94,7 @@ unfolding finish ended
 bears-finish h at st from n heard = go (h .state .running .active)
   where
     go : (b : Bool) → Bears h (pick b (ended h at st from n heard) h)
-    go true = record { held = refl; present = refl; handle = refl }
+    go true = record { held = refl; present = refl; closed = refl; handle = refl; options = refl }
     go false = bears-none h
 
 above-finish : (h : Held) (at : Micros) (st : StepStatus) (from n heard : ℕ) → n ≤ resultSize → drop heldAt (finish h at st from n heard .store) ≡ drop heldAt (h .store)
@@ -113,23 +115,23 @@ unfolding takeStep
 keeps-take h few =
     let n = valueSize * h .state .queue .count in
     record {
-      bears = record { held = refl; present = refl; handle = refl };
+      bears = record { held = refl; present = refl; closed = refl; handle = refl; options = refl };
       above = ap (drop heldAt) (moved-down (h .store) runningAt (waitingAt 0) n (omega arith)) ∙ drop-past (h .store) runningAt (h .store) (waitingAt 0) n heldAt (omega (arith, few));
     }
 
 keeps-waits : (h : Held) (at : Micros) (ms : Millis) → Keeps h (waitsFor h at ms)
-keeps-waits h at ms = still refl refl refl
+keeps-waits h at ms = still refl refl refl refl refl
 
 -- ---- requests
 
 pub keeps-request : (w : World) (at : Micros) (pdu : List ℕ) → Keeps (w .held) (request w at pdu .held)
 unfolding request
-keeps-request w at pdu = still refl refl refl
+keeps-request w at pdu = still refl refl refl refl refl
 
 -- discovery's next request
 keeps-asking : (w : World) (phase cursor : ℕ) (at : Micros) (pdu : List ℕ) → Keeps (w .held) (request (asking w phase cursor) at pdu .held)
 unfolding request
-keeps-asking w phase cursor at pdu = still refl refl refl
+keeps-asking w phase cursor at pdu = still refl refl refl refl refl
 
 pub keeps-services : (w : World) (at : Micros) (from : ℕ) → Keeps (w .held) (discoverServices w at from .held)
 unfolding discoverServices
@@ -157,7 +159,7 @@ keeps-characteristics w at svc from = go (ltb (svc .end) from || eqb from 0)
 keeps-passing : (h : Held) (at : Micros) (w : Wanted) → Keeps h (passing h at w)
 keeps-passing h at w =
     let g = onState h (withCounters (h .state) (passed (h .state .counters))) in
-    let a : Keeps h g = still refl refl refl in
+    let a : Keeps h g = still refl refl refl refl refl in
     let n = passedOn (h .state) w (w .age) in
     keeps-then a (record { bears = bears-finish g at Ok heldAt 0 n; above = above-finish g at Ok heldAt 0 n (omega arith) })
 
@@ -187,7 +189,7 @@ keeps-check h at = go (h .state .running .active)
 
 keeps-alone : (h : Held) (at : Micros) (a : Alone) → Keeps h (startAlone h at a)
 unfolding startAlone
-keeps-alone h at (alone.Runs ms) = still refl refl refl
+keeps-alone h at (alone.Runs ms) = still refl refl refl refl refl
 keeps-alone h at alone.Done = keeps-ends h at _
 keeps-alone h at alone.NeedsLink = keeps-ends h at _
 
@@ -235,33 +237,34 @@ keeps-disconnect w = go (w .held .state .bearer .link .terminating)
 
     go : (b : Bool) → Keeps (w .held) (pick b w (record { held = g; told = asksTo (w .told) }) .held)
     go true = keeps-none (w .held)
-    go false = still refl refl refl
+    go false = still refl refl refl refl refl
 
 keeps-linked : (w : World) (at : Micros) (s : Step) → Keeps (w .held) (startLinked w at s .held)
 unfolding startLinked
-keeps-linked w at (Scan ms) = still refl refl refl
+keeps-linked w at (Scan ms) = still refl refl refl refl refl
 keeps-linked w at (Connect target interval latency timeout ms) = keeps-ends (w .held) at Ok
 keeps-linked w at (ExchangeMtu mtu) = keeps-request w at _
 keeps-linked w at DiscoverServices =
-    keeps-then (still {h = w .held} {c = forgotten (w .held .state)} refl refl refl) (keeps-services (onHeld w (onState (w .held) (forgotten (w .held .state)))) at 1)
+    keeps-then (still {h = w .held} {c = forgotten (w .held .state)} refl refl refl refl refl) (keeps-services (onHeld w (onState (w .held) (forgotten (w .held .state)))) at 1)
 keeps-linked w at (DiscoverCharacteristics u) = keeps-in w at _
 keeps-linked w at (Subscribe u indicate) = keeps-subscribe w at indicate _
 keeps-linked w at (Write u response) = keeps-write w at response _
 keeps-linked w at (Read u) = keeps-read w at _
 keeps-linked w at (WaitNotification u ms age) =
     keeps-then (keeps-waits (w .held) at ms) (keeps-check (waitsFor (w .held) at ms) at)
-keeps-linked w at (Wait ms) = still refl refl refl
+keeps-linked w at (Wait ms) = still refl refl refl refl refl
 keeps-linked w at Disconnect = keeps-disconnect w
 keeps-linked w at (Capture enabled) = keeps-ends (w .held) at Ok
 keeps-linked w at (CaptureSecrets secrets) = keeps-ends (w .held) at Ok
 
 pub keeps-start : (w : World) (at : Micros) → Keeps (w .held) (start w at .held)
-unfolding start
-keeps-start w at = go (w .held .state .bearer .present)
+unfolding start startOn
+keeps-start w at = go (w .held .state .bearer .present) (barred (w .held .state .options) (w .held .state .bearer) s)
   where
     s : Step
     s = w .held .state .running .step
 
-    go : (b : Bool) → Keeps (w .held) (pick b (startLinked w at s) (onHeld w (startUnlinked (w .held) at s)) .held)
-    go true = keeps-linked w at s
-    go false = keeps-alone (w .held) at (unlinkedStep s)
+    go : (b c : Bool) → Keeps (w .held) (pick b (pick c (onHeld w (ends (w .held) at BearerClosed)) (startLinked w at s)) (onHeld w (startUnlinked (w .held) at s)) .held)
+    go true true = keeps-ends (w .held) at BearerClosed
+    go true false = keeps-linked w at s
+    go false c = keeps-alone (w .held) at (unlinkedStep s)

@@ -10,6 +10,7 @@ use Rattle.bytes.specs.Choice.{pick}
 use Rattle.lists.specs.Blocks.{Valued}
 use Rattle.uuid.specs.declared.Uuid.{Uuid}
 use Rattle.state.specs.Fresh.{freshCentral, noQueued}
+use Rattle.state.specs.declared.Options.{Options}
 use Rattle.state.specs.declared.Queued.{Queued}
 use Rattle.state.specs.declared.Step.the-variants.{Read}
 use Rattle.state.specs.declared.StepResult.{StepResult}
@@ -112,31 +113,31 @@ links-append (att-heard p ∷ a) b = links-append a b
 
 -- ---- from a fresh state, with any store
 
-module _ (store : List ℕ) (cs : List Call) where
-  unlinked : Tied silence (fresh store)
+module _ (options : Options) (store : List ℕ) (cs : List Call) where
+  unlinked : Tied silence (fresh options store)
   unfolding freshCentral
   unlinked = refl
 
   -- what came in along the trails is what the calls say
-  pub same-events : trail.events (fresh store) cs ≡ events silence (fresh store) cs
-  same-events = events-same silence [] [] (fresh store) cs (books-fresh store) unlinked
+  pub same-events : trail.events (fresh options store) cs ≡ events silence (fresh options store) cs
+  same-events = events-same silence [] [] (fresh options store) cs (books-fresh options store) unlinked
 
-  pub tied : Tied (airOf silence (fresh store) cs) (run (fresh store) cs)
-  tied = tied-run silence [] [] (fresh store) cs (books-fresh store) unlinked
+  pub tied : Tied (airOf silence (fresh options store) cs) (run (fresh options store) cs)
+  tied = tied-run silence [] [] (fresh options store) cs (books-fresh options store) unlinked
 
   -- the promises, of the calls' news
-  pub awaited : awaits (run (fresh store) cs .state .bearer) ≡ true → Awaited (events silence (fresh store) cs) (run (fresh store) cs .state)
-  awaited e = subst (λ (es : List Event). Awaited es (run (fresh store) cs .state)) same-events (all store cs .waits e)
+  pub awaited : awaits (run (fresh options store) cs .state .bearer) ≡ true → Awaited (events silence (fresh options store) cs) (run (fresh options store) cs .state)
+  awaited e = subst (λ (es : List Event). Awaited es (run (fresh options store) cs .state)) same-events (all options store cs .waits e)
 
-  pub read-answered : (i : ℕ) → i < length (log (fresh store) cs) → (u : Uuid) → getD (taken (fresh store) cs) i noQueued .step ≡ Read u
-      → getD (log (fresh store) cs) i noValued .entry .status ≡ Ok → Answered (events silence (fresh store) cs) (getD (log (fresh store) cs) i noValued)
-  read-answered i p u e f = subst (λ (es : List Event). Answered es (getD (log (fresh store) cs) i noValued)) same-events (all store cs .reads i p u e f)
+  pub read-answered : (i : ℕ) → i < length (log (fresh options store) cs) → (u : Uuid) → getD (taken (fresh options store) cs) i noQueued .step ≡ Read u
+      → getD (log (fresh options store) cs) i noValued .entry .status ≡ Ok → Answered (events silence (fresh options store) cs) (getD (log (fresh options store) cs) i noValued)
+  read-answered i p u e f = subst (λ (es : List Event). Answered es (getD (log (fresh options store) cs) i noValued)) same-events (all options store cs .reads i p u e f)
 
-  pub notified-counted : run (fresh store) cs .state .counters .notified ≡ noticed (heard silence (fresh store) cs)
-  notified-counted = counted.notified-counted store cs ∙ counts-same noticed refl noticed-append silence [] [] (fresh store) cs (books-fresh store) unlinked
+  pub notified-counted : run (fresh options store) cs .state .counters .notified ≡ noticed (heard silence (fresh options store) cs)
+  notified-counted = counted.notified-counted options store cs ∙ counts-same noticed refl noticed-append silence [] [] (fresh options store) cs (books-fresh options store) unlinked
 
-  pub links-counted : run (fresh store) cs .state .counters .links ≡ linksCame (heard silence (fresh store) cs)
-  links-counted = counted.links-counted store cs ∙ counts-same linksCame refl links-append silence [] [] (fresh store) cs (books-fresh store) unlinked
+  pub links-counted : run (fresh options store) cs .state .counters .links ≡ linksCame (heard silence (fresh options store) cs)
+  links-counted = counted.links-counted options store cs ∙ counts-same linksCame refl links-append silence [] [] (fresh options store) cs (books-fresh options store) unlinked
 
-  pub requests-in-turn : InTurn (taken (fresh store) cs) 0 (events silence (fresh store) cs)
-  requests-in-turn = subst (λ (es : List Event). InTurn (taken (fresh store) cs) 0 es) same-events (in-turn store cs)
+  pub requests-in-turn : InTurn (taken (fresh options store) cs) 0 (events silence (fresh options store) cs)
+  requests-in-turn = subst (λ (es : List Event). InTurn (taken (fresh options store) cs) 0 es) same-events (in-turn options store cs)

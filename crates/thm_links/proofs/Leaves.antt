@@ -35,7 +35,7 @@ use Rattle.state.specs.declared.Counters.{Counters}
 use Rattle.state.specs.declared.Step.{Step}
 use Rattle.state.specs.declared.Step.the-variants.{Scan, Connect, ExchangeMtu, DiscoverServices, DiscoverCharacteristics, Subscribe, Write, Read, WaitNotification, Wait, Disconnect, Capture, CaptureSecrets}
 use Rattle.state.specs.declared.StepStatus.{StepStatus}
-use Rattle.state.specs.declared.StepStatus.the-variants.{Ok, TooLong}
+use Rattle.state.specs.declared.StepStatus.the-variants.{Ok, TooLong, BearerClosed}
 use Rattle.script_rules.specs.World.{Held, World, onHeld, onState}
 use Rattle.script_rules.specs.Finish.{resultPart, ended, finish, withLink}
 use Rattle.script_rules.specs.Send.{request}
@@ -45,7 +45,7 @@ use Rattle.script_rules.specs.declared.Alone.the-variants as alone
 use Rattle.script_rules.specs.declared.Awaited.{Awaited}
 use Rattle.script_rules.specs.declared.Awaited.the-variants as awaited-variants
 use Rattle.script_rules.specs.Wait.{wanted, waitPasses, passedOn, passed, passing, checkOne, awaited, checkFor, checkWait}
-use Rattle.script_rules.specs.Start.{ends, waitsFor, unlinkedStep, startAlone, startUnlinked, forgotten, discoverIn, subscribeAt, subscribe, commanded, write, read, terminated, asksTo, disconnect, startLinked, start}
+use Rattle.script_rules.specs.Start.{ends, waitsFor, unlinkedStep, startAlone, startUnlinked, forgotten, discoverIn, subscribeAt, subscribe, commanded, write, read, terminated, asksTo, disconnect, startLinked, barred, startOn, start}
 use Rattle.thm_links.specs.Keeps.{keptNotifications, Keeps, startsQuietly}
 
 -- ---- what is left alone
@@ -302,12 +302,13 @@ begins-linked w at (Capture enabled) = begins-quietly (leaves-ends (w .held) at 
 begins-linked w at (CaptureSecrets secrets) = begins-quietly (leaves-ends (w .held) at Ok)
 
 pub begins-start : (w : World) (at : Micros) → Begins (w .held .state .running .step) (w .held) (start w at .held)
-unfolding start
-begins-start w at = go (w .held .state .bearer .present)
+unfolding start startOn
+begins-start w at = go (w .held .state .bearer .present) (barred (w .held .state .options) (w .held .state .bearer) s)
   where
     s : Step
     s = w .held .state .running .step
 
-    go : (b : Bool) → Begins s (w .held) (pick b (startLinked w at s) (onHeld w (startUnlinked (w .held) at s)) .held)
-    go true = begins-linked w at s
-    go false = begins-quietly (leaves-alone (w .held) at (unlinkedStep s))
+    go : (b c : Bool) → Begins s (w .held) (pick b (pick c (onHeld w (ends (w .held) at BearerClosed)) (startLinked w at s)) (onHeld w (startUnlinked (w .held) at s)) .held)
+    go true true = begins-quietly (leaves-ends (w .held) at BearerClosed)
+    go true false = begins-linked w at s
+    go false c = begins-quietly (leaves-alone (w .held) at (unlinkedStep s))

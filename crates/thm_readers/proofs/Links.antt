@@ -11,6 +11,7 @@ use Rattle.state_places.specs.Sizes.{storeSize}
 use Rattle.lists.specs.Blocks.{Valued}
 use Rattle.time.specs.declared.Micros.{Micros}
 use Rattle.state.specs.declared.Bearer.{Bearer}
+use Rattle.state.specs.declared.Options.{Options}
 use Rattle.state.specs.declared.Queued.{Queued}
 use Rattle.state.specs.declared.StepResult.{StepResult}
 use Rattle.state.specs.Fresh.{freshCentral}
@@ -117,11 +118,11 @@ onward-news w at x = onwards-news (w .held .state .queue .count) w at x
 
 timer-news : (w : World) (at : Micros) (x : Handle) → byTrail (timerTrail w at) x ≡ x
 unfolding timerTrail
-timer-news w at x = go (due (w .held .state .running) at) _
+timer-news w at x = go (due (w .held .state .running) at) _ _
   where
-    go : (b : Bool) (v : World) → byTrail (pick b (thenOnward v at) []) x ≡ x
-    go true v = onward-news v at x
-    go false v = refl
+    go : (b : Bool) (u v : World) → byTrail (pick b (pass u ∷ thenOnward v at) []) x ≡ x
+    go true u v = onward-news v at x
+    go false u v = refl
 
 connected-news : (w : World) (handle : ℕ) (at : Micros) (x : Handle) → byTrail (connectedTrail w handle at) x ≡ Is handle
 unfolding connectedTrail
@@ -247,15 +248,15 @@ sized-run l q h [] b z = z
 sized-run l q h (c ∷ cs) b z = sized-run (l ++ givenBy h c) (q ++ takesIn h c) (left (does h c)) cs (books-call l q h c b) (sized-call l q h c b z)
 
 -- a fit state and a store of its size: a reader answers
-pub answers : (store : List ℕ) (cs : List Call) → let h = run (fresh store) cs in fits (h .state) ≡ true → length store ≡ storeSize → gateReader (h .state) (length (h .store)) ≡ 0
-answers store cs f z =
-    let h = run (fresh store) cs in
-    opens (fits (h .state)) (eqb (length (h .store)) storeSize) true f (eq-eqb (length (h .store)) storeSize (sized-run [] [] (fresh store) cs (books-fresh store) z)) refl
+pub answers : (options : Options) (store : List ℕ) (cs : List Call) → let h = run (fresh options store) cs in fits (h .state) ≡ true → length store ≡ storeSize → gateReader (h .state) (length (h .store)) ≡ 0
+answers options store cs f z =
+    let h = run (fresh options store) cs in
+    opens (fits (h .state)) (eqb (length (h .store)) storeSize) true f (eq-eqb (length (h .store)) storeSize (sized-run [] [] (fresh options store) cs (books-fresh options store) z)) refl
 
-pub handle-said : (store : List ℕ) (cs : List Call) → let h = run (fresh store) cs in gateReader (h .state) (length (h .store)) ≡ 0
-    → said h connectedHandle ≡ handleWords (linkAfter Absent cs (refusals (fresh store) cs))
+pub handle-said : (options : Options) (store : List ℕ) (cs : List Call) → let h = run (fresh options store) cs in gateReader (h .state) (length (h .store)) ≡ 0
+    → said h connectedHandle ≡ handleWords (linkAfter Absent cs (refusals (fresh options store) cs))
 unfolding handle freshCentral
-handle-said store cs e =
-    let h = run (fresh store) cs in
+handle-said options store cs e =
+    let h = run (fresh options store) cs in
     ap (λ (b : Bool). handleWords (pick b (linkOf h) (Refused (gateReader (h .state) (length (h .store)))))) (eq-eqb (gateReader (h .state) (length (h .store))) 0 e)
-    ∙ ap handleWords (link-run [] [] (fresh store) cs (books-fresh store))
+    ∙ ap handleWords (link-run [] [] (fresh options store) cs (books-fresh options store))

@@ -21,12 +21,12 @@ use Rattle.script_rules.specs.World.{Held, World, onHeld}
 use Rattle.script_rules.specs.Start.{ends}
 use Rattle.script_rules.specs.Script.{advance}
 use Rattle.script_rules.specs.Outcome.{done, refused, begins}
-use Rattle.script_rules.specs.Events.{timedOut, due, expire, onTimer}
+use Rattle.script_rules.specs.Events.{timedOut, due, givenUp, expire, onTimer}
 use Rattle.thm_trail.specs.Calls.{timerUs, timer, does, left, gateOf, done?}
-use Rattle.thm_trail.specs.Trail.{onward, thenOnward, timerTrail, goes}
+use Rattle.thm_trail.specs.Trail.{pass, onward, thenOnward, timerTrail, goes}
 use Rattle.thm_trail.specs.Log.{noValued, gave, givenIn, givenBy}
-use Rattle.thm_accounting.proofs.Gives.{Whole, finish-pushes}
-use Rattle.thm_accounting.proofs.Books.{Books, gave-pushed}
+use Rattle.thm_accounting.proofs.Gives.{Whole, whole-same, finish-pushes}
+use Rattle.thm_accounting.proofs.Books.{Books, none-gave, gave-pushed}
 use Rattle.thm_readers.specs.Said.{said, deadlineOf, over, Heeds}
 use Rattle.thm_readers.proofs.Results.{timer-said}
 
@@ -46,8 +46,11 @@ module _ (l : List (Valued StepResult)) (q : List Queued) (h : Held) (out : List
   abbrev st : StepStatus
   st = timedOut (h .state .running .step)
 
+  abbrev u : World
+  u = onHeld w (givenUp h)
+
   abbrev v : World
-  v = onHeld w (ends h at st)
+  v = onHeld u (ends (u .held) at st)
 
   abbrev x : Valued StepResult
   x = record { entry = record { index = h .state .running .index; at = at; status = st; len = 0; heard = 0 }; value = bytes (h .store) heldAt 0 }
@@ -73,9 +76,11 @@ module _ (l : List (Valued StepResult)) (q : List Queued) (h : Held) (out : List
   given-first e =
       let r = h .state .running in
       let a : r .active ≡ true = both (r .active) (r .dated && leb (r .deadline .0) (at .0)) e .0 in
-      let one : gave h (ends h at st) ≡ x ∷ [] = gave-pushed l q h (ends h at st) x b (b .number a) (finish-pushes h at st heldAt 0 0 whole (omega arith) (omega arith) a) in
+      let pushes = finish-pushes (u .held) at st heldAt 0 0 (whole-same {g = u .held} whole refl refl) (omega arith) (omega arith) a in
+      let one : gave h (v .held) ≡ x ∷ [] = gave-pushed l q h (v .held) x b (b .number a) pushes in
       ap (λ (c : Bool). pick c (givenIn w (goes h (timer out at))) []) accepts
-      ∙ ap (λ (c : Bool). givenIn w (pick c (thenOnward v at) [])) e
+      ∙ ap (λ (c : Bool). givenIn w (pick c (pass u ∷ thenOnward v at) [])) e
+      ∙ ap (λ (t : List (Valued StepResult)). t ++ (gave h (v .held) ++ givenIn v (onward v at))) (none-gave l q h (u .held) b refl)
       ∙ ap (λ (t : List (Valued StepResult)). t ++ givenIn v (onward v at)) one
 
   First : List (Valued StepResult) → Type 0

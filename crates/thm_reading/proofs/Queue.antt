@@ -79,6 +79,7 @@ take-blind h some = λ i.
         services = sym (services-twice (c .services)) i;
         characteristics = sym (characteristics-twice (c .characteristics)) i;
         notifications = sym (notifications-twice (c .notifications)) i;
+        options = c .options;
       };
       store = moved (h .store) runningAt (waitingAt 0) (valueSize * q .count);
     }

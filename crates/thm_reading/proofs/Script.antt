@@ -14,7 +14,7 @@ use Rattle.script_rules.specs.Waiting.{takeStep}
 use Rattle.script_rules.specs.Start.{ends, start}
 use Rattle.script_rules.specs.Script.{canGo, stepOnce, advances, advance}
 use Rattle.script_rules.proofs.AdvanceLaws.{goes-on}
-use Rattle.script_rules.specs.Comings.{expire, greeted, withNewLink, connect, goesOn, cutStatus, cutOff, silent, lose}
+use Rattle.script_rules.specs.Comings.{givenUp, expire, greeted, withNewLink, connect, goesOn, cutStatus, cutOff, silent, lose}
 use Rattle.thm_reading.proofs.Blind.{cut, cutWorld, held-twice, world-twice, pick-if, pick-both}
 use Rattle.thm_reading.proofs.Turns.{finish-blind, finish-world}
 use Rattle.thm_reading.proofs.Queue.{take-blind}
@@ -60,9 +60,9 @@ module _ (at : Micros) where
   unfolding expire
   expire-blind w =
       let r = w .held .state .running in
-      let stops : World → World = λ v. onHeld v (ends (v .held) at (timedOut (r .step))) in
+      let stops : World → World = λ v. onHeld v (ends (givenUp (v .held)) at (timedOut (r .step))) in
       pick-both cutWorld (due r at) (advance (stops w) at) w (advance (stops (cutWorld w)) at) (cutWorld w)
-      (then-advance (stops w) (stops (cutWorld w)) (finish-world w at (timedOut (r .step)) heldAt 0 0))
+      (then-advance (stops w) (stops (cutWorld w)) (finish-world (onHeld w (givenUp (w .held))) at (timedOut (r .step)) heldAt 0 0))
       (world-twice w)
 
   -- ---- a link comes

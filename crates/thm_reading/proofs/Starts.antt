@@ -38,7 +38,7 @@ use Rattle.state.specs.Central.{Central, withCounters, withBearer, withServices
 use Rattle.state.specs.declared.Step.{Step}
 use Rattle.state.specs.declared.Step.the-variants.{Scan, Connect, ExchangeMtu, DiscoverServices, DiscoverCharacteristics, Subscribe, Write, Read, WaitNotification, Wait}
 use Rattle.state.specs.declared.Step.the-variants.{Disconnect, Capture, CaptureSecrets}
-use Rattle.state.specs.declared.StepStatus.the-variants.{Ok, NotConnected, NotFound, TooLong}
+use Rattle.state.specs.declared.StepStatus.the-variants.{Ok, NotConnected, NotFound, TooLong, BearerClosed}
 use Rattle.state_rules.specs.Steps.{defaultMtu}
 use Rattle.script_rules.specs.World.{Held, World, onHeld, onState}
 use Rattle.script_rules.specs.Finish.{withLink, finish}
@@ -50,7 +50,7 @@ use Rattle.script_rules.specs.declared.Awaited.{Awaited}
 use Rattle.script_rules.specs.declared.Awaited.the-variants as awaited-variants
 use Rattle.script_rules.specs.Wait.{wanted, skipped, waitPasses, passedOn, passed, passing, checkOne, awaited, checkFor, checkWait}
 use Rattle.script_rules.specs.Start.{ends, waitsFor, unlinkedStep, startAlone, startUnlinked, forgotten, discoverIn, configuration, subscribeAt, subscribe, commanded, write, read}
-use Rattle.script_rules.specs.Start.{terminated, asksTo, disconnect, named, startLinked, start}
+use Rattle.script_rules.specs.Start.{terminated, asksTo, disconnect, named, startLinked, barred, startOn, start}
 use Rattle.thm_reading.specs.Live.{live}
 use Rattle.thm_reading.proofs.Tables.{cut-twice, live-twice}
 use Rattle.thm_reading.proofs.Blind.{cut, cutWorld, held-twice, world-twice, pick-if, pick-both}
@@ -263,12 +263,21 @@ module _ (at : Micros) where
   start-linked-blind w (Capture enabled) = finish-world w at Ok heldAt 0 0
   start-linked-blind w (CaptureSecrets secrets) = finish-world w at Ok heldAt 0 0
 
+  start-on-blind : (w : World) (s : Step) → cutWorld (startOn w at s) ≡ cutWorld (startOn (cutWorld w) at s)
+  unfolding startOn
+  start-on-blind w s =
+      pick-both cutWorld (barred (w .held .state .options) (w .held .state .bearer) s)
+      (onHeld w (ends (w .held) at BearerClosed)) (startLinked w at s)
+      (onHeld (cutWorld w) (ends (cut (w .held)) at BearerClosed)) (startLinked (cutWorld w) at s)
+      (finish-world w at BearerClosed heldAt 0 0)
+      (start-linked-blind w s)
+
   pub start-blind : (w : World) → cutWorld (start w at) ≡ cutWorld (start (cutWorld w) at)
   unfolding start
   start-blind w =
       let s : Step = w .held .state .running .step in
       pick-both cutWorld (w .held .state .bearer .present)
-      (startLinked w at s) (onHeld w (startUnlinked (w .held) at s))
-      (startLinked (cutWorld w) at s) (onHeld (cutWorld w) (startUnlinked (cut (w .held)) at s))
-      (start-linked-blind w s)
+      (startOn w at s) (onHeld w (startUnlinked (w .held) at s))
+      (startOn (cutWorld w) at s) (onHeld (cutWorld w) (startUnlinked (cut (w .held)) at s))
+      (start-on-blind w s)
       (λ i. record { held = start-unlinked-blind at (w .held) s i; told = w .told })

@@ -83,6 +83,7 @@ live-twice c = λ i.
       services = services-twice (c .services) i;
       characteristics = characteristics-twice (c .characteristics) i;
       notifications = notifications-twice (c .notifications) i;
+      options = c .options;
     }
 
 -- ---- another list in a table

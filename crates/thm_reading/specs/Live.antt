@@ -59,6 +59,7 @@ live c =
       services = liveServices (c .services);
       characteristics = liveCharacteristics (c .characteristics);
       notifications = liveNotifications (c .notifications);
+      options = c .options;
     }
 
 -- states that differ in dead places alone

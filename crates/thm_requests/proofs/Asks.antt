@@ -16,6 +16,7 @@ use Rattle.script_rules.specs.Finish.{ended, finish}
 use Rattle.script_rules.specs.Send.{send, request}
 use Rattle.script_rules.specs.Discovery.{asking}
 use Rattle.thm_requests.specs.Events.{asksFor}
+use Rattle.thm_requests.specs.Sorts.{initiates}
 
 -- the same frames in the same bytes (the link request apart)
 pub record As (x s : Told) : Type 0 where
@@ -30,6 +31,16 @@ itself t = record { frames = refl; bytes = refl; out = refl }
 pub data Voice (t s : Told) : Type 0 where
   hushed : As t s → Voice t s
   speaks : (channel : ℕ) (payload : List ℕ) → channel ≤ 65535 → length payload ≤ mostMtu → asksFor channel payload ≡ false → As (send t channel payload) s → Voice t s
+
+-- nothing goes out, or something that is neither a request nor a command
+pub data Reply (t s : Told) : Type 0 where
+  mute : As t s → Reply t s
+  replies : (channel : ℕ) (payload : List ℕ) → channel ≤ 65535 → length payload ≤ mostMtu → asksFor channel payload ≡ false → initiates channel payload ≡ false
+      → As (send t channel payload) s → Reply t s
+
+pub voiced : {t s : Told} → Reply t s → Voice t s
+voiced (mute a) = hushed a
+voiced (replies channel payload c m e f a) = speaks channel payload c m e a
 
 pub record Calmly (w v : World) : Type 0 where
   pub pending : v .held .state .bearer .link .pending ≡ w .held .state .bearer .link .pending
@@ -70,7 +81,7 @@ pub not-awaited : (b : Bool) → (b && false) ≡ false
 not-awaited true = refl
 not-awaited false = refl
 
-same-wait : (p q : ℕ) (b d : Bool) → p ≡ q → b ≡ d → (b && not (eqb p 0)) ≡ (d && not (eqb q 0))
+pub same-wait : (p q : ℕ) (b d : Bool) → p ≡ q → b ≡ d → (b && not (eqb p 0)) ≡ (d && not (eqb q 0))
 same-wait p q b d e f = rw (e, f)
 
 -- after the wait has ended

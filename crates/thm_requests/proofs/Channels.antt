@@ -1,7 +1,7 @@
 -- What a frame that is read does to the request that is awaited.
 use Prim.Native.Nat.{ℕ, _+_, _-_, _≤_}
 use mathlib.Core.Path.{_≡_, refl, ap}
-use mathlib.Core.Bool.{Bool, true, false, _&&_}
+use mathlib.Core.Bool.{Bool, true, false, _&&_, _||_}
 use mathlib.Core.List.{List, [], _∷_}
 use native.Mathlib.Omega.{arith}
 use lib.ListN.{length, getD}
@@ -49,7 +49,8 @@ use lib.ListN.{take}
 use lib.ListN.{length-take}
 use Rattle.att_pdu.proofs.PduLaws.{length-attError, length-exchangeMtuRsp}
 use Rattle.l2cap_signaling.proofs.AnswerLaws.{signaling-sized, smp-sized}
-use Rattle.thm_requests.proofs.Asks.{Asks, calm, none, asks, Calmly, Voice, hushed, speaks, itself, asks-none, mild, asks-then, asks-quit, asks-finish, not-awaited}
+use Rattle.thm_requests.specs.Sorts.{requests, commands}
+use Rattle.thm_requests.proofs.Asks.{Asks, calm, none, asks, Calmly, Voice, Reply, mute, replies, voiced, itself, asks-none, mild, asks-then, asks-quit, asks-finish, not-awaited}
 use Rattle.thm_requests.proofs.Starts.{asks-ends, asks-services, asks-descriptors, asks-characteristics, asks-check}
 
 abbrev pub Runs : World → Type 0
@@ -189,7 +190,7 @@ asks-present w at n asked-variants.Value k = go (eqb (getD (payload (w .held) n)
     go false = asks-none w
 asks-present w at n asked-variants.Nothing k = asks-none w
 
-asks-taken : (w : World) (at : Micros) (n : ℕ) → Asks w (taken w at n)
+pub asks-taken : (w : World) (at : Micros) (n : ℕ) → Asks w (taken w at n)
 unfolding taken
 asks-taken w at n = go (w .held .state .running .active) refl (eqb (getD (payload (w .held) n) 0 0) opErrorRsp)
   where
@@ -215,43 +216,54 @@ asks-response w at n = go (counts (w .held .state .bearer .link .pending) (paylo
 -- ---- what is no response: no request of ours goes out
 
 -- a reply
-replied : (w : World) (t : Told) → Voice (w .told) t → Asks w (onTold w t)
-replied w t v = calm (record { pending = refl; present = refl; active = refl; index = refl; voice = v })
+replied : (w : World) (t : Told) → Reply (w .told) t → Asks w (onTold w t)
+replied w t v = calm (record { pending = refl; present = refl; active = refl; index = refl; voice = voiced v })
 
-voice-refuse : (t : Told) (op handle code : ℕ) → Voice t (refuse t op handle code)
-unfolding refuse
-voice-refuse t op handle code = speaks cidAtt (attError op handle code) (omega arith) (omega (arith, length-attError op handle code)) refl (itself (send t cidAtt (attError op handle code)))
+pub reply-refuse : (t : Told) (op handle code : ℕ) → Reply t (refuse t op handle code)
+unfolding refuse among
+reply-refuse t op handle code =
+    replies cidAtt (attError op handle code) (omega arith) (omega (arith, length-attError op handle code)) refl refl (itself (send t cidAtt (attError op handle code)))
 
 -- nothing on another channel is a request
-voice-reply : (t : Told) (channel n : ℕ) (l : List ℕ) → channel ≤ 65535 → length l ≤ 6 → eqb channel cidAtt ≡ false → Voice t (reply t channel n l)
+reply-other : (t : Told) (channel n : ℕ) (l : List ℕ) → channel ≤ 65535 → length l ≤ 6 → eqb channel cidAtt ≡ false → Reply t (reply t channel n l)
 unfolding reply
-voice-reply t channel n l c m e = go (eqb n 0)
+reply-other t channel n l c m e = go (eqb n 0)
   where
-    go : (b : Bool) → Voice t (pick b t (send t channel (take n l)))
-    go true = hushed (itself t)
-    go false = speaks channel (take n l) c (omega (arith, m, length-take n l)) (ap (λ (b : Bool). b && isRequest (getD (take n l) 0 0)) e) (itself (send t channel (take n l)))
+    op : ℕ
+    op = getD (take n l) 0 0
 
-voice-update : (t s : Told) (u : update.Update) → Voice t s → Voice t (asksUpdate s u)
-voice-update t s update-variants.Nothing v = v
-voice-update t s (update-variants.To interval latency timeout) (hushed a) = hushed (record { frames = a .frames; bytes = a .bytes; out = a .out })
-voice-update t s (update-variants.To interval latency timeout) (speaks channel payload c m e a) = speaks channel payload c m e (record { frames = a .frames; bytes = a .bytes; out = a .out })
+    go : (b : Bool) → Reply t (pick b t (send t channel (take n l)))
+    go true = mute (itself t)
+    go false =
+        replies channel (take n l) c (omega (arith, m, length-take n l)) (ap (λ (b : Bool). b && isRequest op) e) (ap (λ (b : Bool). b && (among op requests || among op commands)) e)
+        (itself (send t channel (take n l)))
 
-voice-signaling : (t : Told) (p : List ℕ) → Voice t (onSignaling t p)
+reply-update : (t s : Told) (u : update.Update) → Reply t s → Reply t (asksUpdate s u)
+reply-update t s update-variants.Nothing v = v
+reply-update t s (update-variants.To interval latency timeout) (mute a) = mute (record { frames = a .frames; bytes = a .bytes; out = a .out })
+reply-update t s (update-variants.To interval latency timeout) (replies channel payload c m e f a) = replies channel payload c m e f (record { frames = a .frames; bytes = a .bytes; out = a .out })
+
+pub reply-signaling : (t : Told) (p : List ℕ) → Reply t (onSignaling t p)
 unfolding onSignaling
-voice-signaling t p = let a = signalingAnswer p in voice-update t (reply t cidSignaling (a .len) (a .bytes)) (a .update) (voice-reply t cidSignaling (a .len) (a .bytes) (omega arith) (omega (arith, signaling-sized p .whole)) refl)
+reply-signaling t p = let a = signalingAnswer p in reply-update t (reply t cidSignaling (a .len) (a .bytes)) (a .update) (reply-other t cidSignaling (a .len) (a .bytes) (omega arith) (omega (arith, signaling-sized p .whole)) refl)
 
-voice-smp : (t : Told) (p : List ℕ) → Voice t (onSmp t p)
+pub reply-smp : (t : Told) (p : List ℕ) → Reply t (onSmp t p)
 unfolding onSmp
-voice-smp t p = let a = smpAnswer p in voice-reply t cidSmp (a .len) (a .bytes) (omega arith) (omega (arith, smp-sized p .whole)) refl
+reply-smp t p = let a = smpAnswer p in reply-other t cidSmp (a .len) (a .bytes) (omega arith) (omega (arith, smp-sized p .whole)) refl
 
-voice-confirmed : (t : Told) (b : Bool) → Voice t (confirmed t b)
-voice-confirmed t true = speaks cidAtt confirmation (omega arith) (omega arith) refl (itself (send t cidAtt confirmation))
-voice-confirmed t false = hushed (itself t)
+pub reply-confirmed : (t : Told) (b : Bool) → Reply t (confirmed t b)
+unfolding among
+reply-confirmed t true = replies cidAtt confirmation (omega arith) (omega arith) refl refl (itself (send t cidAtt confirmation))
+reply-confirmed t false = mute (itself t)
+
+pub reply-exchange : (w : World) (theirs : ℕ) → Reply (w .told) (exchange w theirs .told)
+unfolding exchange among
+reply-exchange w theirs =
+    replies cidAtt (exchangeMtuRsp mostMtu) (omega arith) (omega (arith, length-exchangeMtuRsp mostMtu)) refl refl (itself (send (w .told) cidAtt (exchangeMtuRsp mostMtu)))
 
 asks-exchange : (w : World) (theirs : ℕ) → Asks w (exchange w theirs)
 unfolding exchange
-asks-exchange w theirs =
-    calm (record { pending = refl; present = refl; active = refl; index = refl; voice = speaks cidAtt (exchangeMtuRsp mostMtu) (omega arith) (omega (arith, length-exchangeMtuRsp mostMtu)) refl (itself (send (w .told) cidAtt (exchangeMtuRsp mostMtu))) })
+asks-exchange w theirs = calm (record { pending = refl; present = refl; active = refl; index = refl; voice = voiced (reply-exchange w theirs) })
 
 -- where nothing went out, something else may
 instead : (w : World) (g : Held) (t : Told) → Voice (w .told) t → Asks w (onHeld w g) → Asks w (record { held = g; told = t })
@@ -264,7 +276,7 @@ asks-notice : (w : World) (at : Micros) (n : ℕ) (indication : Bool) → Asks w
 unfolding notice keepOne
 asks-notice w at n indication =
     let g = keepOne (w .held) at (leAt 2 (payload (w .held) n) 1) (n - 3) indication in
-    instead w (checkWait g at) (confirmed (w .told) indication) (voice-confirmed (w .told) indication)
+    instead w (checkWait g at) (confirmed (w .told) indication) (voiced (reply-confirmed (w .told) indication))
     (asks-then (mild {w = w} {g = g} refl refl refl refl) (asks-check (onHeld w g) at))
 
 -- ---- the attribute channel, and all channels
@@ -283,10 +295,10 @@ asks-opcode w at n op handle =
         (pick f (onTold w (refuse (w .told) op 0 errRequestNotSupported)) (onResponse w at n)))))))
     go true b c d e f = asks-notice w at n (eqb op opHandleValueInd)
     go false true c d e f = asks-exchange w handle
-    go false false true d e f = replied w _ (voice-refuse (w .told) op handle errAttributeNotFound)
-    go false false false true e f = replied w _ (voice-refuse (w .told) op handle errInvalidHandle)
+    go false false true d e f = replied w _ (reply-refuse (w .told) op handle errAttributeNotFound)
+    go false false false true e f = replied w _ (reply-refuse (w .told) op handle errInvalidHandle)
     go false false false false true f = asks-none w
-    go false false false false false true = replied w _ (voice-refuse (w .told) op 0 errRequestNotSupported)
+    go false false false false false true = replied w _ (reply-refuse (w .told) op 0 errRequestNotSupported)
     go false false false false false false = asks-response w at n
 
 asks-att : (w : World) (at : Micros) (n : ℕ) → Asks w (onAtt w at n)
@@ -307,6 +319,6 @@ asks-channel w at channel n = go (eqb channel cidAtt) (eqb channel cidSignaling)
     go : (a b c : Bool)
         → Asks w (pick a (onAtt w at n) (pick b (onTold w (onSignaling (w .told) (payload (w .held) n))) (pick c (onTold w (onSmp (w .told) (payload (w .held) n))) w)))
     go true b c = asks-att w at n
-    go false true c = replied w _ (voice-signaling (w .told) (payload (w .held) n))
-    go false false true = replied w _ (voice-smp (w .told) (payload (w .held) n))
+    go false true c = replied w _ (reply-signaling (w .told) (payload (w .held) n))
+    go false false true = replied w _ (reply-smp (w .told) (payload (w .held) n))
     go false false false = asks-none w

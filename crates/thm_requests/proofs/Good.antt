@@ -31,9 +31,9 @@ use Rattle.script_rules.proofs.AdvanceLaws.{goes-on}
 use Rattle.link_rules.specs.Payload.{payloadAt, payload}
 use Rattle.link_rules.specs.Responses.{counts}
 use Rattle.link_rules.specs.Channel.{onChannel}
-use Rattle.thm_trail.specs.Trail.{att-heard, Pass, pass, met, parted, cameOn}
+use Rattle.thm_trail.specs.Trail.{att-heard, Pass, met, parted, cameOn}
 use Rattle.thm_trail.specs.Log.{keptResults, noValued, upTo, newer, gave}
-use Rattle.thm_trail.proofs.Hops.{Open, Hop, ended, began, meets, parts, still, acted, still-values}
+use Rattle.thm_trail.proofs.Hops.{Open, NotWell, Still, Hop, ended, began, meets, parts, still, acted, still-values}
 use Rattle.thm_wire.specs.Wire.{sentIn}
 use Rattle.thm_accounting.proofs.Gives.{Gives, nothing, one, Whole, kept-values}
 use Rattle.thm_accounting.proofs.Starts.{gives-ends, gives-start}
@@ -65,10 +65,14 @@ longer es new x a =
       value = a .value;
     }
 
--- what a hop gives while a Read runs
+-- what a hop gives while a Read runs: nothing, or a result that is not Ok
+pub data Badly (h g : Held) : Type 0 where
+  nothing-given : gave h g ≡ [] → Badly h g
+  not-ok : (x : Valued StepResult) → gave h g ≡ x ∷ [] → (x .entry .status ≡ Ok → ⊥) → Badly h g
+
+-- or a result that is Ok, and was answered
 pub data Ends (new : List Event) (es : List Event) (h g : Held) : Type 0 where
-  nothing-given : gave h g ≡ [] → Ends new es h g
-  badly : (x : Valued StepResult) → gave h g ≡ x ∷ [] → (x .entry .status ≡ Ok → ⊥) → Ends new es h g
+  badly : Badly h g → Ends new es h g
   well : (x : Valued StepResult) → gave h g ≡ x ∷ [] → Answered (es ++ new) x → Ends new es h g
 
 -- ---- what was given
@@ -82,9 +86,18 @@ at-most l q h g b (nothing r) = no (none-gave l q h g b (r .results))
 at-most l q h g b (one e) = yes (e .new) (gave-pushed l q h g (e .new) b (e .index ∙ b .number (e .was)) (e .results))
 
 -- where no step runs, none ends
-idle-gave : {at : Micros} (l : List (Valued StepResult)) (q : List Queued) (h g : Held) → Books l q h → Gives at h g → h .state .running .active ≡ false → gave h g ≡ []
+pub idle-gave : {at : Micros} (l : List (Valued StepResult)) (q : List Queued) (h g : Held) → Books l q h → Gives at h g → h .state .running .active ≡ false → gave h g ≡ []
 idle-gave l q h g b (nothing r) e = none-gave l q h g b (r .results)
 idle-gave l q h g b (one x) e = absurd (false≢true (sym e ∙ x .was))
+
+-- where the script stands still, none ends
+pub still-gave : (l : List (Valued StepResult)) (q : List Queued) (w : World) (g : Held) → Sound 65 w → Books l q (w .held) → Still (w .held) g → gave (w .held) g ≡ []
+still-gave l q w g s b t = none-gave l q (w .held) g b (kept-values (w .held) g (whole w s (b .sizes)) (t .results) (still-values t))
+
+-- of the running step
+pub poorly-given : (l : List (Valued StepResult)) (q : List Queued) (h g : Held) → Books l q h → h .state .running .active ≡ true → reading.Poorly h g → Badly h g
+poorly-given l q h g b a (reading.unended f) = nothing-given (none-gave l q h g b f)
+poorly-given l q h g b a (reading.ended y j bad f) = not-ok y (gave-pushed l q h g y b (j ∙ b .number a) f) bad
 
 -- the step that runs is the next of those taken in
 pub head-is : (n : ℕ) (q : List Queued) (x : Queued) (t : List Queued) → x ∷ t ≡ drop n q → getD q n noQueued ≡ x
@@ -92,7 +105,7 @@ head-is n q x t e =
     let z : n + 0 ≡ n = omega arith in
     sym (ap (λ (k : ℕ). getD q k noQueued) z) ∙ sym (getD-drop n q 0 noQueued) ∙ ap (λ (y : List Queued). getD y 0 noQueued) (sym e)
 
-running-is : (l : List (Valued StepResult)) (q : List Queued) (h : Held) (u : Uuid) → Books l q h → h .state .running .active ≡ true
+pub running-is : (l : List (Valued StepResult)) (q : List Queued) (h : Held) (u : Uuid) → Books l q h → h .state .running .active ≡ true
     → getD q (length l) noQueued .step ≡ Read u → h .state .running .step ≡ Read u
 running-is l q h u b a e =
     let x : Queued = record { step = h .state .running .step; len = h .state .running .len } in
@@ -175,26 +188,28 @@ module _ (es : List Event) (l : List (Valued StepResult)) (q : List Queued) (w :
   read-ends u k a e = go (reading.read-by u w at n (o .short) e k a channel)
     where
       go : reading.ReadBy w at channel n v → Ends (eventsIn w hop) es (w .held) (v .held)
-      go (reading.poorly (reading.unended f)) = nothing-given (none-gave l q (w .held) (v .held) b f)
-      go (reading.poorly (reading.ended y j bad f)) = badly y (gave-pushed l q (w .held) (v .held) y b (j ∙ b .number a) f) bad
+      go (reading.poorly f) = badly (poorly-given l q (w .held) (v .held) b a f)
       go (reading.value r) = answered-by a r
 
 -- ---- hops
 
 -- a step that ends otherwise: no Read ends well so
-ended-ends : (es new : List Event) (l : List (Valued StepResult)) (q : List Queued) (w : World) (at : Micros) (st : StepStatus) → (st ≡ Ok → ⊥) → Whole (w .held) → Books l q (w .held)
-    → w .held .state .running .active ≡ true → Ends new es (w .held) (ends (w .held) at st)
-ended-ends es new l q w at st bad k b a = go (reading.poorly-ends (w .held) at st bad k a)
+pub ended-badly : (l : List (Valued StepResult)) (q : List Queued) (w : World) (at : Micros) (st : StepStatus) (u : Uuid) → NotWell w st → Sound 65 w → Books l q (w .held)
+    → getD q (length l) noQueued .step ≡ Read u → Badly (w .held) (ends (w .held) at st)
+ended-badly l q w at st u n s b e = go (w .held .state .running .active) refl
   where
-    go : reading.Poorly (w .held) (ends (w .held) at st) → Ends new es (w .held) (ends (w .held) at st)
-    go (reading.unended f) = nothing-given (none-gave l q (w .held) (ends (w .held) at st) b f)
-    go (reading.ended y j no-ok f) = badly y (gave-pushed l q (w .held) (ends (w .held) at st) y b (j ∙ b .number a) f) no-ok
+    k : Whole (w .held)
+    k = whole w s (b .sizes)
+
+    go : (x : Bool) → w .held .state .running .active ≡ x → Badly (w .held) (ends (w .held) at st)
+    go true a = poorly-given l q (w .held) (ends (w .held) at st) b a (reading.poorly-ends (w .held) at st (λ f. n .read u (running-is l q (w .held) u b a e) f) k a)
+    go false a = nothing-given (idle-gave l q (w .held) (ends (w .held) at st) b (gives-ends (w .held) at st k) a)
 
 -- a Read that begins
-began-ends : (es new : List Event) (l : List (Valued StepResult)) (q : List Queued) (w : World) (at : Micros) (u : Uuid) → Sound 65 w → canGo (w .held .state) ≡ true → Books l q (w .held)
-    → getD q (length l) noQueued .step ≡ Read u → Ends new es (w .held) (stepOnce w at .held)
+pub began-badly : (l : List (Valued StepResult)) (q : List Queued) (w : World) (at : Micros) (u : Uuid) → Sound 65 w → canGo (w .held .state) ≡ true → Books l q (w .held)
+    → getD q (length l) noQueued .step ≡ Read u → Badly (w .held) (stepOnce w at .held)
 unfolding takeStep
-began-ends es new l q w at u s g b e =
+began-badly l q w at u s g b e =
     go (reading.poorly-start t at u (running-is l q (t .held) u b' refl e) (whole-take (w .held) k) refl)
   where
     t : World
@@ -209,30 +224,26 @@ began-ends es new l q w at u s g b e =
     same : keptResults (takeStep (w .held)) ≡ keptResults (w .held)
     same = kept-take (w .held) k (s .nearly .waits .few)
 
-    go : reading.Poorly (t .held) (start t at .held) → Ends new es (w .held) (start t at .held)
+    go : reading.Poorly (t .held) (start t at .held) → Badly (w .held) (start t at .held)
     go (reading.unended f) = nothing-given (none-gave l q (w .held) (start t at .held) b (f ∙ same))
     go (reading.ended y j bad f) =
-        badly y (gave-pushed l q (w .held) (start t at .held) y b (j ∙ b' .number refl) (f ∙ ap (λ (z : List (Valued StepResult)). pushed mostResults z y) same)) bad
+        not-ok y (gave-pushed l q (w .held) (start t at .held) y b (j ∙ b' .number refl) (f ∙ ap (λ (z : List (Valued StepResult)). pushed mostResults z y) same)) bad
 
 hop-ends : (es : List Event) (l : List (Valued StepResult)) (q : List Queued) {w : World} {p : Pass} → Hop w p → Sound 65 w → Books l q (w .held) → Waits es (w .held) → (u : Uuid)
     → getD q (length l) noQueued .step ≡ Read u → Ends (eventsIn w p) es (w .held) (p .to .held)
-hop-ends es l q (ended w at st n) s b i u e = go (w .held .state .running .active) refl
-  where
-    go : (x : Bool) → w .held .state .running .active ≡ x → Ends (eventsIn w (pass (onHeld w (ends (w .held) at st)))) es (w .held) (ends (w .held) at st)
-    go true a = ended-ends es _ l q w at st (λ f. n .read u (running-is l q (w .held) u b a e) f) (whole w s (b .sizes)) b a
-    go false a = nothing-given (idle-gave l q (w .held) (ends (w .held) at st) b (gives-ends (w .held) at st (whole w s (b .sizes))) a)
-hop-ends es l q (began w at t g) s b i u e = began-ends es _ l q w at u s g b e
-hop-ends es l q (meets w handle few) s b i u e = nothing-given (none-gave l q (w .held) (met w handle .held) b refl)
-hop-ends es l q (parts w) s b i u e = nothing-given (none-gave l q (w .held) (parted w .held) b refl)
-hop-ends es l q (still w g t) s b i u e = nothing-given (none-gave l q (w .held) g b (kept-values (w .held) g (whole w s (b .sizes)) (t .results) (still-values t)))
+hop-ends es l q (ended w at st n) s b i u e = badly (ended-badly l q w at st u n s b e)
+hop-ends es l q (began w at t g) s b i u e = badly (began-badly l q w at u s g b e)
+hop-ends es l q (meets w handle few) s b i u e = badly (nothing-given (none-gave l q (w .held) (met w handle .held) b refl))
+hop-ends es l q (parts w) s b i u e = badly (nothing-given (none-gave l q (w .held) (parted w .held) b refl))
+hop-ends es l q (still w g t) s b i u e = badly (nothing-given (still-gave l q w g s b t))
 hop-ends es l q (acted w at channel n o t) s b i u e = go (w .held .state .running .active) refl
   where
     go : (x : Bool) → w .held .state .running .active ≡ x
         → Ends (eventsIn w (record { came = cameOn channel (payload (w .held) n); to = onChannel w at channel n })) es (w .held) (onChannel w at channel n .held)
     go true a = read-ends es l q w at channel n o b i u (whole w s (b .sizes)) a (running-is l q (w .held) u b a e)
-    go false a = nothing-given (idle-gave l q (w .held) (onChannel w at channel n .held) b (gives-channel w at channel n (o .short) (whole w s (b .sizes))) a)
+    go false a = badly (nothing-given (idle-gave l q (w .held) (onChannel w at channel n .held) b (gives-channel w at channel n (o .short) (whole w s (b .sizes))) a))
 
-hop-most : (l : List (Valued StepResult)) (q : List Queued) {w : World} {p : Pass} → Hop w p → Sound 65 w → Books l q (w .held) → AtMost (w .held) (p .to .held)
+pub hop-most : (l : List (Valued StepResult)) (q : List Queued) {w : World} {p : Pass} → Hop w p → Sound 65 w → Books l q (w .held) → AtMost (w .held) (p .to .held)
 hop-most l q (ended w at st n) s b = at-most l q (w .held) _ b (gives-ends (w .held) at st (whole w s (b .sizes)))
 hop-most l q (began w at t g) s b = go (at-most l q (takeStep (w .held)) (stepOnce w at .held) (books-take l q (w .held) k (s .nearly .waits .few) (goes-on (w .held .state) g) b) (gives-start (onHeld w (takeStep (w .held))) at (whole-take (w .held) k)))
   where
@@ -247,7 +258,7 @@ hop-most l q (began w at t g) s b = go (at-most l q (takeStep (w .held)) (stepOn
     go (yes x e) = yes x (same ∙ e)
 hop-most l q (meets w handle few) s b = no (none-gave l q (w .held) (met w handle .held) b refl)
 hop-most l q (parts w) s b = no (none-gave l q (w .held) (parted w .held) b refl)
-hop-most l q (still w g t) s b = no (none-gave l q (w .held) g b (kept-values (w .held) g (whole w s (b .sizes)) (t .results) (still-values t)))
+hop-most l q (still w g t) s b = no (still-gave l q w g s b t)
 hop-most l q (acted w at channel n o t) s b = at-most l q (w .held) _ b (gives-channel w at channel n (o .short) (whole w s (b .sizes)))
 
 -- ---- the invariant
@@ -255,10 +266,10 @@ hop-most l q (acted w at channel n o t) s b = at-most l q (w .held) _ b (gives-c
 good-more : (es new : List Event) (l : List (Valued StepResult)) (q : List Queued) → Good es l q → Good (es ++ new) l q
 good-more es new l q g i h u e f = longer es new (getD l i noValued) (g i h u e f)
 
-one-same : {A : Type 0} (x y : A) → _≡_ {A = List A} (x ∷ []) (y ∷ []) → x ≡ y
+pub one-same : {A : Type 0} (x y : A) → _≡_ {A = List A} (x ∷ []) (y ∷ []) → x ≡ y
 one-same x y e = cc
 
-not-one : {A : Type 0} (x : A) (m : List A) → m ≡ [] → m ≡ x ∷ [] → ⊥
+pub not-one : {A : Type 0} (x : A) (m : List A) → m ≡ [] → m ≡ x ∷ [] → ⊥
 not-one x m e f = let n : length m ≡ 0 = ap length e in let k : length m ≡ 1 = ap length f in omega (arith, n, k)
 
 pub good-hop : (es : List Event) (l : List (Valued StepResult)) (q : List Queued) {w : World} {p : Pass} → Hop w p → Sound 65 w → Books l q (w .held) → Waits es (w .held) → Good es l q
@@ -285,8 +296,8 @@ good-hop es l q {w} {p} x s b i g = go (hop-most l q x s b)
                 here = getD-at l y [] noValued j (sym z)
 
                 ends-so : Ends new es (w .held) (p .to .held) → Answered (es ++ new) (getD (l ++ (y ∷ [])) j noValued)
-                ends-so (nothing-given a) = absurd (not-one y m a e)
-                ends-so (badly v a bad) =
+                ends-so (badly (nothing-given a)) = absurd (not-one y m a e)
+                ends-so (badly (not-ok v a bad)) =
                     let t : y ≡ v = one-same y v (sym e ∙ a) in
                     absurd (bad (sym (ap (λ (c : Valued StepResult). c .entry .status) (here ∙ t)) ∙ k))
                 ends-so (well v a r) =

@@ -30,13 +30,13 @@ use Rattle.script_rules.specs.Send.{request}
 use Rattle.state.specs.declared.Step.{Step}
 use Rattle.state.specs.declared.Step.the-variants.{Read}
 use Rattle.state.specs.declared.StepResult.{StepResult}
-use Rattle.state.specs.declared.StepStatus.the-variants.{NotConnected}
+use Rattle.state.specs.declared.StepStatus.the-variants.{NotConnected, BearerClosed}
 use Rattle.gatt_characteristics.specs.declared.Which as which
 use Rattle.gatt_characteristics.specs.declared.Which.the-variants as which-variants
 use Rattle.lists.specs.Queue.{pushed}
 use Rattle.lists.specs.Blocks.{Valued}
 use Rattle.script_rules.specs.Wait.{awaited, checkFor}
-use Rattle.script_rules.specs.Start.{ends, startAlone, startUnlinked, startLinked, read, named, start}
+use Rattle.script_rules.specs.Start.{ends, startAlone, startUnlinked, startLinked, barred, startOn, read, named, start}
 use Rattle.thm_trail.specs.Log.{keptResults}
 use Rattle.thm_accounting.proofs.Gives.{Whole, apart, whole-same, finish-pushes}
 use Rattle.thm_accounting.proofs.Channels as books
@@ -62,15 +62,17 @@ poorly-read w at (which-variants.At x) k a = unended refl
 
 pub poorly-start : (w : World) (at : Micros) (u : Uuid) → w .held .state .running .step ≡ Read u → Whole (w .held) → w .held .state .running .active ≡ true
     → Poorly (w .held) (start w at .held)
-unfolding start startLinked startAlone
-poorly-start w at u e k a = subst (λ (s : Step). Poorly (w .held) (pick b (startLinked w at s) (onHeld w (startUnlinked (w .held) at s)) .held)) (sym e) (go b)
+unfolding start startOn startLinked startAlone
+poorly-start w at u e k a =
+    subst (λ (s : Step). Poorly (w .held) (pick b (startOn w at s) (onHeld w (startUnlinked (w .held) at s)) .held)) (sym e) (go b (barred (w .held .state .options) (w .held .state .bearer) (Read u)))
   where
     b : Bool
     b = w .held .state .bearer .present
 
-    go : (x : Bool) → Poorly (w .held) (pick x (startLinked w at (Read u)) (onHeld w (startUnlinked (w .held) at (Read u))) .held)
-    go true = poorly-read w at (named w u) k a
-    go false = poorly-ends (w .held) at NotConnected (λ f. let z : _≡_ {A = ℕ} 0 1 = cc in omega arith) k a
+    go : (x c : Bool) → Poorly (w .held) (pick x (pick c (onHeld w (ends (w .held) at BearerClosed)) (startLinked w at (Read u))) (onHeld w (startUnlinked (w .held) at (Read u))) .held)
+    go true true = poorly-ends (w .held) at BearerClosed (λ f. let z : _≡_ {A = ℕ} 0 1 = cc in omega arith) k a
+    go true false = poorly-read w at (named w u) k a
+    go false c = poorly-ends (w .held) at NotConnected (λ f. let z : _≡_ {A = ℕ} 0 1 = cc in omega arith) k a
 
 -- ---- a frame that is read while a Read runs
 

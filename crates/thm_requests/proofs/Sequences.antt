@@ -11,6 +11,7 @@ use Rattle.bytes.specs.Choice.{pick}
 use Rattle.lists.specs.Blocks.{Valued}
 use Rattle.state.specs.Fresh.{noQueued, freshCentral}
 use Rattle.state.specs.declared.Bearer.{Bearer}
+use Rattle.state.specs.declared.Options.{Options}
 use Rattle.state.specs.declared.Queued.{Queued}
 use Rattle.state.specs.declared.Running.{Running}
 use Rattle.state.specs.declared.StepResult.{StepResult}
@@ -146,8 +147,8 @@ all-run es l q h (c ∷ cs) a =
 
 -- ---- from a fresh state
 
-pub all : (store : List ℕ) (cs : List Call) → let h = fresh store in All (events h cs) (log h cs) (taken h cs) (run h cs)
+pub all : (options : Options) (store : List ℕ) (cs : List Call) → let h = fresh options store in All (events h cs) (log h cs) (taken h cs) (run h cs)
 unfolding freshCentral
-all store cs =
-    all-run [] [] [] (fresh store) cs
-    (record { books = books-fresh store; waits = λ e. absurd (false≢true e); reads = λ (i : ℕ). λ (p : i < 0). absurd (omega arith) })
+all options store cs =
+    all-run [] [] [] (fresh options store) cs
+    (record { books = books-fresh options store; waits = λ e. absurd (false≢true e); reads = λ (i : ℕ). λ (p : i < 0). absurd (omega arith) })

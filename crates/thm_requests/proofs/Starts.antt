@@ -25,7 +25,7 @@ use Rattle.state.specs.Central.{withCounters, withBearer}
 use Rattle.state.specs.declared.Step.{Step}
 use Rattle.state.specs.declared.Step.the-variants.{Scan, Connect, ExchangeMtu, DiscoverServices, DiscoverCharacteristics, Subscribe, Write, Read, WaitNotification, Wait, Disconnect, Capture, CaptureSecrets}
 use Rattle.state.specs.declared.StepStatus.{StepStatus}
-use Rattle.state.specs.declared.StepStatus.the-variants.{Ok, TooLong}
+use Rattle.state.specs.declared.StepStatus.the-variants.{Ok, TooLong, BearerClosed}
 use Rattle.script_rules.specs.World.{Held, World, onHeld, onState}
 use Rattle.script_rules.specs.Finish.{ended, finish, withLink}
 use Rattle.script_rules.specs.Send.{request}
@@ -38,7 +38,7 @@ use Rattle.script_rules.specs.declared.Alone.the-variants as alone
 use Rattle.script_rules.specs.declared.Awaited.{Awaited}
 use Rattle.script_rules.specs.declared.Awaited.the-variants as awaited-variants
 use Rattle.script_rules.specs.Wait.{wanted, waitPasses, passedOn, passed, passing, checkOne, awaited, checkFor, checkWait}
-use Rattle.script_rules.specs.Start.{ends, waitsFor, unlinkedStep, startAlone, startUnlinked, forgotten, discoverIn, subscribeAt, subscribe, commanded, write, read, terminated, asksTo, disconnect, startLinked, start}
+use Rattle.script_rules.specs.Start.{ends, waitsFor, unlinkedStep, startAlone, startUnlinked, forgotten, discoverIn, subscribeAt, subscribe, commanded, write, read, terminated, asksTo, disconnect, startLinked, barred, startOn, start}
 use Rattle.script_rules.specs.Send.{send}
 use Rattle.l2cap.specs.Numbers.{cidAtt}
 use Rattle.att_pdu.specs.Numbers.{opWriteCmd}
@@ -207,12 +207,13 @@ module _ (w : World) (at : Micros) (a : w .held .state .running .active ≡ true
 
 pub asks-start : (w : World) (at : Micros) → w .held .state .running .active ≡ true → (w .held .state .bearer .present ≡ true → w .held .state .bearer .link .mtu ≤ mostMtu)
     → Asks w (start w at)
-unfolding start
-asks-start w at a hi = go (w .held .state .bearer .present) refl
+unfolding start startOn
+asks-start w at a hi = go (w .held .state .bearer .present) refl (barred (w .held .state .options) (w .held .state .bearer) s)
   where
     s : Step
     s = w .held .state .running .step
 
-    go : (b : Bool) → w .held .state .bearer .present ≡ b → Asks w (pick b (startLinked w at s) (onHeld w (startUnlinked (w .held) at s)))
-    go true e = asks-linked w at a (hi e) s
-    go false e = asks-alone w at (unlinkedStep s)
+    go : (b : Bool) → w .held .state .bearer .present ≡ b → (c : Bool) → Asks w (pick b (pick c (onHeld w (ends (w .held) at BearerClosed)) (startLinked w at s)) (onHeld w (startUnlinked (w .held) at s)))
+    go true e true = asks-ends w at BearerClosed
+    go true e false = asks-linked w at a (hi e) s
+    go false e c = asks-alone w at (unlinkedStep s)

@@ -14,6 +14,7 @@ use Rattle.time.specs.declared.Micros.{Micros}
 use Rattle.state.specs.Fresh.{noQueued}
 use Rattle.state.specs.Central.{Central}
 use Rattle.state.specs.declared.Bearer.{Bearer}
+use Rattle.state.specs.declared.Options.{Options}
 use Rattle.state.specs.declared.Queued.{Queued}
 use Rattle.state.specs.declared.StepResult.{StepResult}
 use Rattle.state_rules.specs.Fit.{awaits, isRequest}
@@ -247,12 +248,16 @@ record Turns (q : List Queued) (es : List Event) (l : List (Valued StepResult)) 
   turn : InTurn q 0 es
   count : given es ≡ length l
 
+-- what a hop gives is numbered from there on
+pub numbered-on : (l m : List (Valued StepResult)) (q : List Queued) (h : Held) → Books (l ++ m) q h → Numbered (length l) m
+numbered-on l m q h b = subst (λ (z : List (Valued StepResult)). Numbered (length l) z) (drop-at l m (length l) refl) (numbered-rest (length l) (l ++ m) (b .order))
+
 turns-hop : (es : List Event) (l : List (Valued StepResult)) (q : List Queued) {w : World} {p : Pass} (x : Hop w p) → Sound 65 w → Books l q (w .held) → Turns q es l
     → Turns q (es ++ eventsIn w p) (l ++ gave (w .held) (p .to .held))
 turns-hop es l q {w} {p} x s b t =
     let m = gave (w .held) (p .to .held) in
     let b' = books-hop l q x s b in
-    let n : Numbered (length l) m = subst (λ (z : List (Valued StepResult)). Numbered (length l) z) (drop-at l m (length l) refl) (numbered-rest (length l) (l ++ m) (b' .order)) in
+    let n = numbered-on l m q (p .to .held) b' in
     let e : length l ≡ 0 + given es = omega (arith, t .count) in
     record {
       turn = turn-append q 0 es (eventsIn w p) (t .turn) (subst (λ (k : ℕ). InTurn q k (eventsIn w p)) e (turn-events q (length l) w p (asked-hop l q x s (sound-hop x s) b b') n));
@@ -293,5 +298,5 @@ turns-run es l q h (c ∷ cs) b t =
     (subst (λ (z : List Queued). InTurn z 0 ((es ++ eventsBy h c) ++ events g cs)) (append-assoc q (takesIn h c) (taken g cs))
     (turns-run (es ++ eventsBy h c) (l ++ givenBy h c) (q ++ takesIn h c) g cs (books-call l q h c b) (turns-call es l q h c b t)))
 
-pub in-turn : (store : List ℕ) (cs : List Call) → InTurn (taken (fresh store) cs) 0 (events (fresh store) cs)
-in-turn store cs = turns-run [] [] [] (fresh store) cs (books-fresh store) (record { turn = tt; count = refl })
+pub in-turn : (options : Options) (store : List ℕ) (cs : List Call) → InTurn (taken (fresh options store) cs) 0 (events (fresh options store) cs)
+in-turn options store cs = turns-run [] [] [] (fresh options store) cs (books-fresh options store) (record { turn = tt; count = refl })

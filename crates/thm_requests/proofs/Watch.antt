@@ -1,7 +1,7 @@
 -- A request is awaited only by the step that sent it, on the link that it was sent on.
 use Prim.Native.Nat.{ℕ, _+_, _≤_}
 use mathlib.Core.Path.{_≡_, refl, sym, ap, _∙_, subst}
-use mathlib.Core.Bool.{Bool, true, false, not, _&&_, false≢true}
+use mathlib.Core.Bool.{Bool, true, false, false≢true}
 use mathlib.Core.List.{List, [], _∷_, _++_, append-nil, append-assoc}
 use native.Mathlib.Omega.{arith}
 use lib.ListN.{length, take, drop, getD, take-append-drop, drop-of-length-le, length-take}
@@ -40,7 +40,7 @@ pub use Rattle.thm_accounting.proofs.Books.{none-gave}
 use Rattle.thm_accounting.proofs.Books.{Books, kept-take, whole-take, whole}
 use Rattle.thm_requests.specs.Events.{Event, came, asked, result, askedIn, newsOf, resultsOf, Calm, Awaited}
 use Rattle.thm_requests.proofs.Along.{eventsIn}
-use Rattle.thm_requests.proofs.Asks.{As, itself, Voice, hushed, speaks, Calmly, Asking, Asks, calm, none, asks, asks-finish}
+use Rattle.thm_requests.proofs.Asks.{As, itself, Voice, hushed, speaks, Calmly, Asking, Asks, calm, none, asks, same-wait, asks-finish}
 use Rattle.thm_requests.proofs.Starts.{asks-start}
 use Rattle.thm_requests.proofs.Channels.{asks-channel}
 
@@ -105,9 +105,6 @@ Waits es h = awaits (h .state .bearer) ≡ true → Awaited es (h .state)
 
 pub waits-none : (es : List Event) (h : Held) → awaits (h .state .bearer) ≡ false → Waits es h
 waits-none es h e f = absurd (false≢true (sym e ∙ f))
-
-same-wait : (p q : ℕ) (b d : Bool) → p ≡ q → b ≡ d → (b && not (eqb p 0)) ≡ (d && not (eqb q 0))
-same-wait p q b d e f = rw (e, f)
 
 -- more that is calm
 calmer : (es new : List Event) (c d : Central) → Calm new → d .running .active ≡ c .running .active → d .running .index ≡ c .running .index
@@ -210,7 +207,7 @@ calm-still w g s =
     }
 
 -- nothing is awaited where no step runs
-idle-none : (w : World) → Sound 65 w → w .held .state .running .active ≡ false → awaits (w .held .state .bearer) ≡ false
+pub idle-none : (w : World) → Sound 65 w → w .held .state .running .active ≡ false → awaits (w .held .state .bearer) ≡ false
 idle-none w s e = go (awaits (w .held .state .bearer)) refl
   where
     go : (b : Bool) → awaits (w .held .state .bearer) ≡ b → b ≡ false

@@ -18,7 +18,7 @@ use Rattle.script_rules.specs.Unlinked.{advanceUnlinked}
 use Rattle.script_rules.proofs.UnlinkedLaws.{present-finish, advance-unlinked}
 use Rattle.script_rules.specs.Outcome.{Outcome, done, refused, quietly, quietlyRefused}
 use Rattle.script_rules.specs.Batch.{pushSteps}
-use Rattle.script_rules.specs.Events.{timedOut, due, expire, onTimer, isConnect, connect, onConnected, goesOn, cutStatus, cutOff, silent, lose, onDisconnected}
+use Rattle.script_rules.specs.Events.{timedOut, due, givenUp, expire, onTimer, isConnect, connect, onConnected, goesOn, cutStatus, cutOff, silent, lose, onDisconnected}
 use Rattle.radio_rules.specs.Hearing as radio
 use Rattle.link_rules.specs.Fragment.{dropped, withHeld, gathered, frameLength, frameChannel, whole, refusing}
 use Rattle.link_rules.specs.Link.{frameRead, gather, hear, onFragment}
@@ -54,10 +54,13 @@ timer-final : (w : World) (at : Micros) → final w (timerTrail w at) ≡ expire
 unfolding timerTrail expire
 timer-final w at = go (due (w .held .state .running) at)
   where
-    v : World
-    v = onHeld w (ends (w .held) at (timedOut (w .held .state .running .step)))
+    u : World
+    u = onHeld w (givenUp (w .held))
 
-    go : (b : Bool) → final w (pick b (thenOnward v at) []) ≡ pick b (advance v at) w
+    v : World
+    v = onHeld u (ends (u .held) at (timedOut (w .held .state .running .step)))
+
+    go : (b : Bool) → final w (pick b (pass u ∷ thenOnward v at) []) ≡ pick b (advance v at) w
     go true = onward-final v at
     go false = refl
 

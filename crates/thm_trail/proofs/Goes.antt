@@ -20,6 +20,7 @@ use Rattle.state.specs.declared.Step.{Step}
 use Rattle.state.specs.declared.StepStatus.{StepStatus}
 use Rattle.state.specs.declared.StepStatus.the-variants.{Ok, Timeout, Disconnected}
 use Rattle.state.specs.declared.LinkRequest.the-variants.{Nothing}
+use Rattle.state_kinds.specs.Kinds.{isDisconnect}
 use Rattle.state_rules.specs.Refusals.{accepted, keysFull}
 use Rattle.state_rules.specs.Fit.{mostLinks}
 use Rattle.state_rules.specs.Facts.{Fit}
@@ -27,11 +28,13 @@ use Rattle.state_rules.specs.Gate.{gate, gateQuiet}
 use Rattle.state_rules.proofs.GateLaws.{passed, passed-quiet, passed-reader}
 use Rattle.script_rules.specs.World.{Held, World, onHeld, onState}
 use Rattle.script_rules.specs.Start.{ends}
+use Rattle.script_rules.specs.Nearly.{Nearly}
 use Rattle.script_rules.specs.Sound.{Sound}
 use Rattle.script_rules.proofs.KeepTurns.{Stays, of-fit}
+use Rattle.script_rules.proofs.KeepEvents.{stays-given-up}
 use Rattle.script_rules.proofs.CallBeginLaws.{begins-sound, sound-stays, may-begin, may-connect}
 use Rattle.script_rules.proofs.CallLaws.{passed-batch, pushed-sound}
-use Rattle.script_rules.specs.Events.{timedOut, due, isConnect, goesOn, cutStatus}
+use Rattle.script_rules.specs.Events.{timedOut, due, givenUp, isConnect, goesOn, cutStatus}
 use Rattle.radio_rules.specs.Hearing as radio
 use Rattle.radio_rules.proofs.Keeps as radio-keeps
 use Rattle.radio_rules.proofs.HearingLaws as radio-laws
@@ -45,8 +48,18 @@ use Rattle.link_rules.specs.Fragment.{withHeld, dropped, heldBefore, gathered, 
 use Rattle.link_rules.proofs.FragmentLaws.{PassedFragment, passed-fragment}
 use Rattle.link_rules.proofs.KeepFrames.{comes-linked, whole-short, stays-held, stays-gathered}
 use Rattle.thm_trail.specs.Calls.{timerUs, Call, batch, timer, connected, disconnected, advertising, scanResponse, fragment, reads, blank, timeOf, gateOf, done?}
-use Rattle.thm_trail.specs.Trail.{pass, met, parted, thenOnward, onward, cameOn, timerTrail, connectedTrail, disconnectedTrail, fragmentTrail, begins, goes}
-use Rattle.thm_trail.proofs.Hops.{Sizes, NotWell, Still, Open, ended, meets, parts, still, acted, Hops, AllAt, HopsAt, stop, hop, onward-hops}
+use Rattle.thm_trail.specs.Trail.{Pass, pass, met, parted, thenOnward, onward, cameOn, timerTrail, connectedTrail, disconnectedTrail, fragmentTrail, begins, goes}
+use Rattle.thm_trail.proofs.Hops.{Sizes, NotWell, Still, Open, ended, meets, parts, still, acted, Hops, none, more, AllAt, Steadily, AllSteady, HopsAt, stop, hop, onward-hops}
+
+abbrev pub isTimer : Call → Bool
+isTimer (batch out at b values) = false
+isTimer (timer out at) = true
+isTimer (connected out handle at) = false
+isTimer (disconnected at) = false
+isTimer (advertising v) = false
+isTimer (scanResponse at a d) = false
+isTimer (fragment out at start bytes) = false
+isTimer (reads r) = false
 
 -- what a call that is not refused begins with, and goes through
 pub record Good (h : Held) (c : Call) : Type 0 where
@@ -54,17 +67,19 @@ pub record Good (h : Held) (c : Call) : Type 0 where
   pub hops : Hops (begins h c) (goes h c)
   -- each at the call's time
   pub times : AllAt (timeOf c) hops
+  -- a timer call alone may close the bearer
+  pub steady : isTimer c ≡ false → AllSteady hops
 
 -- the trail, with its time
 of-hops : {h : Held} {c : Call} → Sound 65 (begins h c) → HopsAt (timeOf c) (begins h c) (goes h c) → Good h c
-of-hops s x = record { sound = s; hops = x .hops; times = x .times }
+of-hops s x = record { sound = s; hops = x .hops; times = x .times; steady = λ e. x .steady }
 
 -- ---- neither a Read nor a WaitNotification ends well by the clock, by a new link or by a lost one
 
 not-timeout : Timeout ≡ Ok → ⊥
 not-timeout z = let y : _≡_ {A = ℕ} 0 1 = cc in omega arith
 
-late : (w : World) → NotWell w (timedOut (w .held .state .running .step))
+pub late : (w : World) → NotWell w (timedOut (w .held .state .running .step))
 late w = record { read = λ u e f. not-timeout (sym (ap timedOut e) ∙ f); wait = λ u ms age e f. not-timeout (sym (ap timedOut e) ∙ f) }
 
 not-disconnected : Disconnected ≡ Ok → ⊥
@@ -78,23 +93,60 @@ greeting w c = record { read = λ u e f. false≢true (sym (ap isConnect e) ∙ 
 
 -- ---- the trails
 
-timer-hops : (w : World) (at : Micros) → at .0 ≤ latest → HopsAt at w (timerTrail w at)
+-- the bearer is given up, or not
+pub still-given-up : (h : Held) → Nearly (h .state) → Still h (givenUp h)
+still-given-up h f =
+    let s = stays-given-up h f in
+    record {
+      counters = refl;
+      queue = refl;
+      running = refl;
+      results = refl;
+      link = refl;
+      present = refl;
+      notifications = refl;
+      below = λ a n p. refl;
+      store = refl;
+      nearly = s .nearly;
+      sizes = λ z. record { queue = z .queue; results = z .results; reports = z .reports; keys = z .keys };
+    }
+
+ok-not-timeout : Ok ≡ Timeout → ⊥
+ok-not-timeout z = not-timeout (sym z)
+
+cut-not-timeout : (s : Step) → cutStatus s ≡ Timeout → ⊥
+cut-not-timeout s = go (isDisconnect s)
+  where
+    go : (b : Bool) → pick b Ok Disconnected ≡ Timeout → ⊥
+    go true z = ok-not-timeout z
+    go false z = let y : _≡_ {A = ℕ} 0 1 = cc in omega arith
+
+record TimerHops (at : Micros) (w : World) (ps : List Pass) : Type 0 where
+  hops : Hops w ps
+  times : AllAt at hops
+
+timer-hops : (w : World) (at : Micros) → at .0 ≤ latest → Nearly (w .held .state) → TimerHops at w (timerTrail w at)
 unfolding timerTrail
-timer-hops w at t = go (due (w .held .state .running) at)
+timer-hops w at t f = go (due (w .held .state .running) at)
   where
     st : StepStatus
     st = timedOut (w .held .state .running .step)
 
-    v : World
-    v = onHeld w (ends (w .held) at st)
+    u : World
+    u = onHeld w (givenUp (w .held))
 
-    go : (b : Bool) → HopsAt at w (pick b (thenOnward v at) [])
-    go true = hop (ended w at st (late w)) refl (onward-hops v at t)
-    go false = stop
+    v : World
+    v = onHeld u (ends (u .held) at st)
+
+    go : (b : Bool) → TimerHops at w (pick b (pass u ∷ thenOnward v at) [])
+    go true =
+        let o = onward-hops v at t in
+        record { hops = more (still w (u .held) (still-given-up (w .held) f)) (more (ended u at st (late u)) (o .hops)); times = (tt, (refl, o .times)) }
+    go false = record { hops = none; times = tt }
 
 connected-hops : (w : World) (handle : ℕ) (at : Micros) → at .0 ≤ latest → w .held .state .counters .links < mostLinks → HopsAt at w (connectedTrail w handle at)
 unfolding connectedTrail
-connected-hops w handle at t few = hop (meets w handle few) tt (go (isConnect s) refl)
+connected-hops w handle at t few = hop (meets w handle few) tt tt (go (isConnect s) refl)
   where
     u : World
     u = met w handle
@@ -106,12 +158,12 @@ connected-hops w handle at t few = hop (meets w handle few) tt (go (isConnect s)
     v = onHeld u (ends (u .held) at Ok)
 
     go : (b : Bool) → isConnect s ≡ b → HopsAt at u (pick b (thenOnward v at) (onward u at))
-    go true e = hop (ended u at Ok (greeting u e)) refl (onward-hops v at t)
+    go true e = hop (ended u at Ok (greeting u e)) refl ok-not-timeout (onward-hops v at t)
     go false e = onward-hops u at t
 
 disconnected-hops : (w : World) (at : Micros) → at .0 ≤ latest → HopsAt at w (disconnectedTrail w at)
 unfolding disconnectedTrail
-disconnected-hops w at t = hop (parts w) tt (go (goesOn s))
+disconnected-hops w at t = hop (parts w) tt tt (go (goesOn s))
   where
     u : World
     u = parted w
@@ -124,7 +176,7 @@ disconnected-hops w at t = hop (parts w) tt (go (goesOn s))
 
     go : (b : Bool) → HopsAt at u (pick b (onward u at) (thenOnward v at))
     go true = onward-hops u at t
-    go false = hop (ended u at (cutStatus s) (cut u)) refl (onward-hops v at t)
+    go false = hop (ended u at (cutStatus s) (cut u)) refl (cut-not-timeout s) (onward-hops v at t)
 
 -- ---- bytes held of a frame
 
@@ -147,6 +199,10 @@ still-gathered h start piece s =
       nearly = s .nearly;
       sizes = sizes-held (h .state) (heldBefore (h .state .bearer) start + length piece);
     }
+
+steadily-gathered : (h : Held) (start : Bool) (piece : List ℕ) → Steadily h (gathered h start piece)
+unfolding gathered
+steadily-gathered h start piece = record { closed = refl; options = refl }
 
 pub still-emptied : (h : Held) → Stays h (onState h (withHeld (h .state) 0)) → Still h (onState h (withHeld (h .state) 0))
 still-emptied h s =
@@ -208,11 +264,11 @@ module _ (h : Held) (out : List ℕ) (at : Micros) (start : Bool) (piece : List 
       go true e b f = stop
       go false e true f =
           let o = opened e f in
-          hop (still w (v .held) (still-gathered h start piece (first e))) tt
-          (hop (still v (u .held) (still-emptied (v .held) (second e))) tt
-          (hop (acted u at channel n o (sound-channel u at channel n (o .time) (o .sound) (o .unsent) (o .present) (o .short) (o .notified))) refl
+          hop (still w (v .held) (still-gathered h start piece (first e))) tt (steadily-gathered h start piece)
+          (hop (still v (u .held) (still-emptied (v .held) (second e))) tt (record { closed = refl; options = refl })
+          (hop (acted u at channel n o (sound-channel u at channel n (o .time) (o .sound) (o .unsent) (o .present) (o .short) (o .notified))) refl tt
           (onward-hops x at (o .time))))
-      go false e false f = hop (still w (v .held) (still-gathered h start piece (first e))) tt stop
+      go false e false f = hop (still w (v .held) (still-gathered h start piece (first e))) tt (steadily-gathered h start piece) stop
 
 -- ---- the radio
 
@@ -263,9 +319,10 @@ pub record Off (c d : Central) : Type 0 where
   pub results : d .results ≡ c .results
   pub bearer : d .bearer ≡ c .bearer
   pub notifications : d .notifications ≡ c .notifications
+  pub options : d .options ≡ c .options
 
 off : (c : Central) → Off c c
-off c = record { counters = refl; queue = refl; running = refl; results = refl; bearer = refl; notifications = refl }
+off c = record { counters = refl; queue = refl; running = refl; results = refl; bearer = refl; notifications = refl; options = refl }
 
 pub radio-off : (c : Central) (s : List ℕ) (v : radio.Adv) → Off c (radio.advertised c s v .state)
 unfolding radio.advertised radio.heard radio.acted
@@ -281,8 +338,8 @@ radio-off c s v = go (eqb (radio.refusal c (length s) v) accepted) (listens (c .
     act x t m j = pick x (radio.requested c v t m) (radio.weighed c v t m j)
 
     act-off : (x : Bool) (t : Reports) (m : List ℕ) (j : ℕ) → Off c (act x t m j .state)
-    act-off true t m j = record { counters = refl; queue = refl; running = refl; results = refl; bearer = refl; notifications = refl }
-    act-off false t m j = record { counters = refl; queue = refl; running = refl; results = refl; bearer = refl; notifications = refl }
+    act-off true t m j = record { counters = refl; queue = refl; running = refl; results = refl; bearer = refl; notifications = refl; options = refl }
+    act-off false t m j = record { counters = refl; queue = refl; running = refl; results = refl; bearer = refl; notifications = refl; options = refl }
 
     a : List ℕ
     a = againStore i (v .bytes) s
@@ -308,7 +365,7 @@ response-off c s at a d = go (eqb (radio.responseRefusal c (length s) at (length
 
     go : (x y : Bool)
         → Off c (pick x (pick y (radio.answered c s at d i) (radio.unchanged c s accepted)) (radio.unchanged c s (radio.responseRefusal c (length s) at (length d))) .state)
-    go true true = record { counters = refl; queue = refl; running = refl; results = refl; bearer = refl; notifications = refl }
+    go true true = record { counters = refl; queue = refl; running = refl; results = refl; bearer = refl; notifications = refl; options = refl }
     go true false = off c
     go false y = off c
 
@@ -372,13 +429,17 @@ still-radio h x o s v =
           };
     }
 
+steadily-off : {h g : Held} → Off (h .state) (g .state) → Steadily h g
+steadily-off o = record { closed = ap (λ b. b .closed) (o .bearer); options = o .options }
+
 pub good : (h : Held) (c : Call) → done? h c ≡ true → Sizes (h .state) → Good h c
 good h (batch out at b values) e z =
     let p = passed-batch (h .state) (length (h .store)) (length out) at b (length values) (eqb-true (gateOf h (batch out at b values)) 0 e) in
     of-hops (pushed-sound (h .state) (h .store) out at b values p) (onward-hops (begins h (batch out at b values)) at (p .shared .time))
 good h (timer out at) e z =
     let p = may-begin (h .state) (h .store) out at (eqb-true (gateOf h (timer out at)) 0 e) in
-    of-hops (p .0) (timer-hops (begins h (timer out at)) at (p .1))
+    let x = timer-hops (begins h (timer out at)) at (p .1) (p .0 .nearly) in
+    record { sound = p .0; hops = x .hops; times = x .times; steady = λ f. absurd (false≢true (sym f)) }
 good h (connected out handle at) e z =
     let p = may-connect (h .state) (h .store) out at (eqb-true (gateOf h (connected out handle at)) 0 e) in
     of-hops (p .0) (connected-hops (begins h (connected out handle at)) handle at (p .1) (p .2))
@@ -392,7 +453,7 @@ good h (advertising v) e z =
     (hop
     (still (begins h (advertising v)) (record { state = x .state; store = x .store })
     (still-radio h x (radio-off (h .state) (h .store) v) (radio-keeps.advertised-sound (h .state) (h .store) (q .gate .fit) (z .reports) (z .keys) v) (λ a n p. radio-below (h .state) (h .store) v a n (omega (arith, p)))))
-    tt stop)
+    tt (steadily-off (radio-off (h .state) (h .store) v)) stop)
 good h (scanResponse at a d) e z =
     let q = radio-laws.passed (h .state) (length (h .store)) at (length d) (eqb-true (gateOf h (scanResponse at a d)) 0 e) in
     let x = radio.scanResponded (h .state) (h .store) at a d in
@@ -400,7 +461,7 @@ good h (scanResponse at a d) e z =
     (hop
     (still (begins h (scanResponse at a d)) (record { state = x .state; store = x .store })
     (still-radio h x (response-off (h .state) (h .store) at a d) (radio-keeps.responded-sound (h .state) (h .store) (q .gate .fit) (z .reports) (z .keys) at a d) (λ b n p. response-below (h .state) (h .store) at a d b n (omega (arith, p)))))
-    tt stop)
+    tt (steadily-off (response-off (h .state) (h .store) at a d)) stop)
 good h (fragment out at start piece) e z =
     let p = passed-fragment (h .state) (length (h .store)) (length out) at start (length piece) (eqb-true (gateOf h (fragment out at start piece)) 0 e) in
     of-hops (sound h out at start piece p) (fragment-hops h out at start piece p)

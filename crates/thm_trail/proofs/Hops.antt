@@ -16,7 +16,7 @@ use Rattle.notifications.specs.declared.Age.{Age}
 use Rattle.state.specs.Central.{Central}
 use Rattle.state.specs.declared.Step.the-variants.{Read, WaitNotification}
 use Rattle.state.specs.declared.StepStatus.{StepStatus}
-use Rattle.state.specs.declared.StepStatus.the-variants.{Ok}
+use Rattle.state.specs.declared.StepStatus.the-variants.{Ok, Timeout}
 use Rattle.state_rules.specs.Fit.{mostNotified, mostLinks}
 use Rattle.script_rules.specs.World.{Held, World, onHeld}
 use Rattle.adv_reports.specs.Whole.{Whole}
@@ -94,15 +94,35 @@ abbrev pub AllAt : (at : Micros) {w : World} {ps : List Pass} → Hops w ps → 
 AllAt at none = Unit {0}
 AllAt at (more x xs) = At at x × AllAt at xs
 
+-- ---- hops that leave the bearer open or closed as it is: all but those of a timer call that ends a step
+
+-- what was chosen stays, and the bearer is open or closed as it was
+pub record Steadily (h g : Held) : Type 0 where
+  pub closed : g .state .bearer .closed ≡ h .state .bearer .closed
+  pub options : g .state .options ≡ h .state .options
+
+abbrev pub Steady : {w : World} {p : Pass} → Hop w p → Type 0
+Steady (ended w t st n) = st ≡ Timeout → ⊥
+Steady (began w t l g) = Unit {0}
+Steady (meets w handle few) = Unit {0}
+Steady (parts w) = Unit {0}
+Steady (still w g s) = Steadily (w .held) g
+Steady (acted w t channel n o s) = Unit {0}
+
+abbrev pub AllSteady : {w : World} {ps : List Pass} → Hops w ps → Type 0
+AllSteady none = Unit {0}
+AllSteady (more x xs) = Steady x × AllSteady xs
+
 pub record HopsAt (at : Micros) (w : World) (ps : List Pass) : Type 0 where
   pub hops : Hops w ps
   pub times : AllAt at hops
+  pub steady : AllSteady hops
 
 pub stop : {at : Micros} {w : World} → HopsAt at w []
-stop = record { hops = none; times = tt }
+stop = record { hops = none; times = tt; steady = tt }
 
-pub hop : {at : Micros} {w : World} {p : Pass} {ps : List Pass} (x : Hop w p) → At at x → HopsAt at (p .to) ps → HopsAt at w (p ∷ ps)
-hop x t xs = record { hops = more x (xs .hops); times = (t, xs .times) }
+pub hop : {at : Micros} {w : World} {p : Pass} {ps : List Pass} (x : Hop w p) → At at x → Steady x → HopsAt at (p .to) ps → HopsAt at w (p ∷ ps)
+hop x t s xs = record { hops = more x (xs .hops); times = (t, xs .times); steady = (s, xs .steady) }
 
 onwards-hops : (n : ℕ) (w : World) (at : Micros) → at .0 ≤ latest → HopsAt at w (onwards n w at)
 unfolding onwards
@@ -110,7 +130,7 @@ onwards-hops zero w at t = stop
 onwards-hops (suc n) w at t = go (canGo (w .held .state)) refl (onwards-hops n (stepOnce w at) at t)
   where
     go : (b : Bool) → canGo (w .held .state) ≡ b → HopsAt at (stepOnce w at) (onwards n (stepOnce w at) at) → HopsAt at w (pick b (pass (stepOnce w at) ∷ onwards n (stepOnce w at) at) [])
-    go true e ih = hop (began w at t e) refl ih
+    go true e ih = hop (began w at t e) refl tt ih
     go false e ih = stop
 
 pub onward-hops : (w : World) (at : Micros) → at .0 ≤ latest → HopsAt at w (onward w at)

@@ -6,8 +6,9 @@ use lib.ListN.{length, replicate}
 use lib.Dec.{eqb}
 use Rattle.state_places.specs.Sizes.{outputSize}
 use Rattle.time.specs.declared.Micros.{Micros}
-use Rattle.state.specs.Fresh.{freshCentral}
+use Rattle.state.specs.Fresh.{freshWith}
 use Rattle.state.specs.declared.Address.{Address}
+use Rattle.state.specs.declared.Options.{Options}
 use Rattle.state_rules.specs.Refusals.{accepted}
 use Rattle.state_rules.specs.Gate.{gate, gateQuiet, gateReader}
 use Rattle.script_rules.specs.World.{Held}
@@ -90,9 +91,9 @@ does h (reads r) = unread h
 abbrev pub left : Outcome → Held
 left x = record { state = x .state; store = x .store }
 
--- nothing has been called yet: any bytes may be in the store
-abbrev pub fresh : List ℕ → Held
-fresh store = record { state = freshCentral; store = store }
+-- nothing has been called yet: any options may be chosen, any bytes may be in the store
+abbrev pub fresh : Options → List ℕ → Held
+fresh options store = record { state = freshWith options; store = store }
 
 -- a sequence of calls
 abbrev pub run : Held → List Call → Held

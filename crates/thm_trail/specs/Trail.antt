@@ -15,7 +15,7 @@ use Rattle.script_rules.specs.BatchSteps.{steps}
 use Rattle.script_rules.specs.Waiting.{pushAll}
 use Rattle.script_rules.specs.Script.{canGo, stepOnce}
 use Rattle.script_rules.specs.Outcome as outcome
-use Rattle.script_rules.specs.Events.{timedOut, due, withNewLink, isConnect, unlinked, goesOn, cutStatus}
+use Rattle.script_rules.specs.Events.{timedOut, due, givenUp, withNewLink, isConnect, unlinked, goesOn, cutStatus}
 use Rattle.radio_rules.specs.Hearing as radio
 use Rattle.link_rules.specs.Payload.{payload}
 use Rattle.link_rules.specs.Channel.{onChannel}
@@ -55,10 +55,12 @@ thenOnward v at = pass v ∷ onward v at
 
 -- ---- each call's
 
+-- the bearer is given up, or not; then the step ends
 unfoldable pub timerTrail : World → Micros → List Pass
 timerTrail w at =
     let r = w .held .state .running in
-    pick (due r at) (thenOnward (onHeld w (ends (w .held) at (timedOut (r .step)))) at) []
+    let u = onHeld w (givenUp (w .held)) in
+    pick (due r at) (pass u ∷ thenOnward (onHeld u (ends (u .held) at (timedOut (r .step)))) at) []
 
 abbrev pub met : World → ℕ → World
 met w handle = onHeld w (onState (w .held) (withNewLink (w .held .state) handle))

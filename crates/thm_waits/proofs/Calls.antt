@@ -32,7 +32,7 @@ use Rattle.script_rules.specs.BatchSteps.{valueLen, queued, steps}
 use Rattle.script_rules.specs.Batch.{placedFits}
 use Rattle.script_rules.specs.Waiting.{waiting, queueing, refusing, pushOne, pushAll}
 use Rattle.script_rules.specs.Sound.{Sound}
-use Rattle.script_rules.specs.Events.{timedOut, due, isConnect, goesOn, cutStatus}
+use Rattle.script_rules.specs.Events.{timedOut, due, givenUp, isConnect, goesOn, cutStatus}
 use Rattle.script_rules.proofs.KeepTurns.{Stays, of-fit}
 use Rattle.script_rules.proofs.CallLaws.{passed-batch}
 use Rattle.script_rules.proofs.CallBeginLaws.{passed-connected}
@@ -194,11 +194,14 @@ quiet-timer : (w : World) (at : Micros) → Quiet (timerTrail w at)
 unfolding timerTrail
 quiet-timer w at = go (due (w .held .state .running) at)
   where
-    v : World
-    v = onHeld w (ends (w .held) at (timedOut (w .held .state .running .step)))
+    u : World
+    u = onHeld w (givenUp (w .held))
 
-    go : (b : Bool) → Quiet (pick b (thenOnward v at) [])
-    go true = (refl, quiet-onward v at)
+    v : World
+    v = onHeld u (ends (u .held) at (timedOut (w .held .state .running .step)))
+
+    go : (b : Bool) → Quiet (pick b (pass u ∷ thenOnward v at) [])
+    go true = (refl, (refl, quiet-onward v at))
     go false = tt
 
 module _ (W : Held → Type 0) {F : ℕ} {L : List (Valued Notification)} {N : ℕ} {P : Bool} (at : Micros) (time : at .0 ≤ latest) (l : List (Valued StepResult)) (q : List Queued)

@@ -17,6 +17,7 @@ use Rattle.gatt_characteristics.specs.Characteristic.{known, characteristicWith
 use Rattle.notifications.specs.declared.Notification.{Notification}
 use Rattle.notifications.specs.declared.Age.the-variants.{Within}
 use Rattle.state.specs.Fresh.{freshCentral, noQueued}
+use Rattle.state.specs.declared.Options.{Options}
 use Rattle.state.specs.declared.Queued.{Queued}
 use Rattle.state.specs.declared.Step.the-variants.{WaitNotification}
 use Rattle.state.specs.declared.StepResult.{StepResult}
@@ -29,7 +30,7 @@ use Rattle.thm_trail.specs.Calls.{Call, batch, timer, connected, disconnected, 
 use Rattle.thm_trail.specs.Trail.{News, begins, goes, final}
 use Rattle.thm_trail.specs.Log.{noValued, givenIn, givenBy, log, roomFor, takesIn, taken}
 use Rattle.thm_trail.proofs.Ends.{refusedOf, does-law, refusal-is}
-use Rattle.thm_accounting.proofs.Accounting.{books-fresh, books-call}
+use Rattle.thm_accounting.proofs.Accounting.{books-fresh, books-call, taken-snoc}
 use Rattle.thm_heard.specs.Heard.{Air, silence, link, news}
 use Rattle.thm_heard.proofs.Tied.{Tied}
 use Rattle.thm_heard.proofs.Calls.{news-refused}
@@ -179,12 +180,6 @@ brought-snoc : (b : Brought) (h : Held) (cs : List Call) (c : Call) → brings (
 brought-snoc b h [] c = refl
 brought-snoc b h (d ∷ cs) c = brought-snoc (brings b d (does h d .refusal)) (left (does h d)) cs c
 
-taken-snoc : (h : Held) (cs : List Call) (c : Call) → taken h cs ++ takesIn (run h cs) c ≡ taken h (cs ++ (c ∷ []))
-taken-snoc h [] c = sym (append-nil (takesIn h c))
-taken-snoc h (d ∷ cs) c =
-    let g = left (does h d) in
-    append-assoc (takesIn h d) (taken g cs) (takesIn (run g cs) c) ∙ ap (λ (t : List Queued). takesIn h d ++ t) (taken-snoc g cs c)
-
 values-snoc : (h : Held) (cs : List Call) (c : Call) → valuesOf h cs ++ valuesIn (run h cs) c ≡ valuesOf h (cs ++ (c ∷ []))
 values-snoc h [] c = sym (append-nil (valuesIn h c))
 values-snoc h (d ∷ cs) c =
@@ -198,11 +193,11 @@ each-at P (x ∷ l) (suc i) d e k = each-at P l i d (e .1) (omega arith)
 
 -- ---- from a fresh state, with any store
 
-between-fresh : (store : List ℕ) → Between nothingYet 0 false [] [] [] (fresh store)
+between-fresh : (options : Options) (store : List ℕ) → Between nothingYet 0 false [] [] [] (fresh options store)
 unfolding freshCentral valued newest
-between-fresh store =
+between-fresh options store =
     record {
-      books = books-fresh store;
+      books = books-fresh options store;
       tied = refl;
       ear = record { cells = refl; table = refl; many = refl; from = refl; links = refl; present = refl };
       line = refl;
@@ -215,48 +210,48 @@ present-so : (a : Air) (h : Held) (P : Bool) → Tied a h → h .state .bearer .
 present-so silence h P t e f = false≢true (sym t ∙ e ∙ f)
 present-so (link handle partial) h P t e f = tt
 
-module _ (store : List ℕ) (cs : List Call) where
+module _ (options : Options) (store : List ℕ) (cs : List Call) where
   abbrev h : Held
-  h = run (fresh store) cs
+  h = run (fresh options store) cs
 
-  reached : Reached (brought store cs) (waitFrom store cs) (log (fresh store) cs) (taken (fresh store) cs) (valuesOf (fresh store) cs) h
-  reached = reach nothingYet 0 false [] [] [] (fresh store) cs (between-fresh store)
+  reached : Reached (brought options store cs) (waitFrom options store cs) (log (fresh options store) cs) (taken (fresh options store) cs) (valuesOf (fresh options store) cs) h
+  reached = reach nothingYet 0 false [] [] [] (fresh options store) cs (between-fresh options store)
 
   -- the notifications that are kept are the newest of all heard, with their values
-  pub kept-heard : keptNotifications h ≡ newest mostNotifications (noticesOf store cs)
+  pub kept-heard : keptNotifications h ≡ newest mostNotifications (noticesOf options store cs)
   kept-heard = reached .between .ear .table
 
-  pub notified-heard : h .state .counters .notified ≡ length (noticesOf store cs)
+  pub notified-heard : h .state .counters .notified ≡ length (noticesOf options store cs)
   notified-heard = reached .between .ear .many
 
-  pub links-counted : h .state .counters .links ≡ linksOf store cs
+  pub links-counted : h .state .counters .links ≡ linksOf options store cs
   links-counted = reached .between .ear .links
 
-  pub wait-from-counted : h .state .counters .«wait_from» ≡ waitFrom store cs
+  pub wait-from-counted : h .state .counters .«wait_from» ≡ waitFrom options store cs
   wait-from-counted = reached .between .ear .from
 
   module _ (c : Call) where
-    abbrev past : Leaves (brought store cs) (waitFrom store cs) (log (fresh store) cs) (taken (fresh store) cs) (valuesOf (fresh store) cs) h c (done? h c) (does h c .refusal) (left (does h c))
-    past = leaves (brought store cs) (waitFrom store cs) (reached .P) (log (fresh store) cs) (taken (fresh store) cs) (valuesOf (fresh store) cs) h c (reached .between)
+    abbrev past : Leaves (brought options store cs) (waitFrom options store cs) (log (fresh options store) cs) (taken (fresh options store) cs) (valuesOf (fresh options store) cs) h c (done? h c) (does h c .refusal) (left (does h c))
+    past = leaves (brought options store cs) (waitFrom options store cs) (reached .P) (log (fresh options store) cs) (taken (fresh options store) cs) (valuesOf (fresh options store) cs) h c (reached .between)
 
     fact : (j : ℕ) → j < length (givenBy h c)
-        → Fact (Moment (begins h c) (goes h c)) (waitFrom store cs) (brings (brought store cs) c (does h c .refusal) .notices) (brings (brought store cs) c (does h c .refusal) .links) (past .P)
-        (timeOf c) (taken (fresh store) cs ++ takesIn h c)
-        (valuesOf (fresh store) cs ++ valuesIn h c) (getD (givenBy h c) j noValued)
+        → Fact (Moment (begins h c) (goes h c)) (waitFrom options store cs) (brings (brought options store cs) c (does h c .refusal) .notices) (brings (brought options store cs) c (does h c .refusal) .links) (past .P)
+        (timeOf c) (taken (fresh options store) cs ++ takesIn h c)
+        (valuesOf (fresh options store) cs ++ valuesIn h c) (getD (givenBy h c) j noValued)
     fact j k = each-at (Fact _ _ _ _ _ _ _ _) (givenBy h c) j noValued (past .each) k
 
     -- an aged wait's Ok result
     pub aged-wait : (j : ℕ) → j < length (givenBy h c) → let x = getD (givenBy h c) j noValued .entry in let all = cs ++ (c ∷ []) in (u : Uuid) (ms age : Millis)
-        → getD (taken (fresh store) all) (x .index) noQueued .step ≡ WaitNotification u ms (Within age) → x .status ≡ Ok
-        → Passed h c (brought store all) (waitFrom store cs) u age (getD (valuesOf (fresh store) all) (x .index) []) x
+        → getD (taken (fresh options store) all) (x .index) noQueued .step ≡ WaitNotification u ms (Within age) → x .status ≡ Ok
+        → Passed h c (brought options store all) (waitFrom options store cs) u age (getD (valuesOf (fresh options store) all) (x .index) []) x
     aged-wait j k u ms age e f =
         let x = getD (givenBy h c) j noValued .entry in
-        let now = brings (brought store cs) c (does h c .refusal) in
-        let n = fact j k .aged u ms age (ap (λ (t : List Queued). getD t (x .index) noQueued .step) (taken-snoc (fresh store) cs c) ∙ e) f in
-        subst (λ (b : Brought). Passed h c b (waitFrom store cs) u age (getD (valuesOf (fresh store) (cs ++ (c ∷ []))) (x .index) []) x) (brought-snoc nothingYet (fresh store) cs c)
-        (subst (λ (t : List (List ℕ)). Passed h c now (waitFrom store cs) u age (getD t (x .index) []) x) (values-snoc (fresh store) cs c)
+        let now = brings (brought options store cs) c (does h c .refusal) in
+        let n = fact j k .aged u ms age (ap (λ (t : List Queued). getD t (x .index) noQueued .step) (taken-snoc (fresh options store) cs c) ∙ e) f in
+        subst (λ (b : Brought). Passed h c b (waitFrom options store cs) u age (getD (valuesOf (fresh options store) (cs ++ (c ∷ []))) (x .index) []) x) (brought-snoc nothingYet (fresh options store) cs c)
+        (subst (λ (t : List (List ℕ)). Passed h c now (waitFrom options store cs) u age (getD t (x .index) []) x) (values-snoc (fresh options store) cs c)
         (record {
-          present = present-so (now .air) (left (does h c)) (past .P) (tied-run (brought store cs .air) _ _ h (c ∷ []) (reached .between .books) (reached .between .tied)) (past .ear .present)
+          present = present-so (now .air) (left (does h c)) (past .P) (tied-run (brought options store cs .air) _ _ h (c ∷ []) (reached .between .books) (reached .between .tied)) (past .ear .present)
               (n .present);
           moment = n .through .hops;
           characteristic = n .characteristic;
@@ -271,7 +266,7 @@ module _ (store : List ℕ) (cs : List Call) where
         }))
 
     -- every other result names nothing
-    pub heard-of-waits-alone : (j : ℕ) → j < length (givenBy h c) → let x = getD (givenBy h c) j noValued .entry in Names (getD (taken (fresh store) (cs ++ (c ∷ []))) (x .index) noQueued .step) x
+    pub heard-of-waits-alone : (j : ℕ) → j < length (givenBy h c) → let x = getD (givenBy h c) j noValued .entry in Names (getD (taken (fresh options store) (cs ++ (c ∷ []))) (x .index) noQueued .step) x
     heard-of-waits-alone j k =
         let x = getD (givenBy h c) j noValued .entry in
-        subst (λ (t : List Queued). Names (getD t (x .index) noQueued .step) x) (taken-snoc (fresh store) cs c) (fact j k .names)
+        subst (λ (t : List Queued). Names (getD t (x .index) noQueued .step) x) (taken-snoc (fresh options store) cs c) (fact j k .names)

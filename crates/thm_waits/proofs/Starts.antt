@@ -26,7 +26,7 @@ use Rattle.notifications.specs.declared.Wanted.{Wanted}
 use Rattle.state.specs.Central.{withBearer}
 use Rattle.state.specs.declared.Step.{Step}
 use Rattle.state.specs.declared.Step.the-variants.{Scan, Connect, ExchangeMtu, DiscoverServices, DiscoverCharacteristics, Subscribe, Write, Read, WaitNotification, Wait, Disconnect, Capture, CaptureSecrets}
-use Rattle.state.specs.declared.StepStatus.the-variants.{Ok, NotConnected, NotFound, TooLong}
+use Rattle.state.specs.declared.StepStatus.the-variants.{Ok, NotConnected, NotFound, TooLong, BearerClosed}
 use Rattle.script_rules.specs.World.{Held, World, onHeld, onState}
 use Rattle.script_rules.specs.Finish.{withLink}
 use Rattle.script_rules.specs.Send.{request}
@@ -39,7 +39,7 @@ use Rattle.script_rules.specs.declared.Alone.the-variants as alone
 use Rattle.script_rules.specs.declared.Awaited.{Awaited}
 use Rattle.script_rules.specs.declared.Awaited.the-variants as awaited-variants
 use Rattle.script_rules.specs.Wait.{wanted, waitPasses, passing, checkOne, awaited, checkFor, checkWait}
-use Rattle.script_rules.specs.Start.{ends, waitsFor, unlinkedStep, startAlone, startUnlinked, forgotten, discoverIn, subscribeAt, subscribe, commanded, write, read, terminated, asksTo, disconnect, startLinked, start}
+use Rattle.script_rules.specs.Start.{ends, waitsFor, unlinkedStep, startAlone, startUnlinked, forgotten, discoverIn, subscribeAt, subscribe, commanded, write, read, terminated, asksTo, disconnect, startLinked, barred, startOn, start}
 use Rattle.thm_waits.specs.Waits.{isWaitNotification}
 use Rattle.thm_waits.proofs.Leads.{Other, other-none, other, Plain, Leads, stays, passes-so, leads-none, leads-then, leads-ends, leads-badly}
 
@@ -146,15 +146,16 @@ leads-linked w at (Capture enabled) p k = leads-ends (w .held) at Ok k
 leads-linked w at (CaptureSecrets secrets) p k = leads-ends (w .held) at Ok k
 
 pub leads-start : (w : World) (at : Micros) → Plain (w .held) → Leads at (w .held) (start w at .held)
-unfolding start
-leads-start w at k = go (w .held .state .bearer .present)
+unfolding start startOn
+leads-start w at k = go (w .held .state .bearer .present) (barred (w .held .state .options) (w .held .state .bearer) s)
   where
     s : Step
     s = w .held .state .running .step
 
-    go : (b : Bool) → Leads at (w .held) (pick b (startLinked w at s) (onHeld w (startUnlinked (w .held) at s)) .held)
-    go true = leads-linked w at s k k
-    go false = leads-alone (w .held) at (unlinkedStep s) k
+    go : (b c : Bool) → Leads at (w .held) (pick b (pick c (onHeld w (ends (w .held) at BearerClosed)) (startLinked w at s)) (onHeld w (startUnlinked (w .held) at s)) .held)
+    go true true = leads-ends (w .held) at BearerClosed k
+    go true false = leads-linked w at s k k
+    go false c = leads-alone (w .held) at (unlinkedStep s) k
 
 -- ---- a WaitNotification
 
@@ -183,14 +184,15 @@ leads-check h at c ms age e =
     go false f = leads-none h
 
 pub leads-wait : (w : World) (at : Micros) (c : Uuid) (ms : Millis) (age : Age) → w .held .state .running .step ≡ WaitNotification c ms age → Leads at (w .held) (start w at .held)
-unfolding start startLinked startAlone
+unfolding start startOn startLinked startAlone
 leads-wait w at c ms age e =
-    subst (λ (s : Step). Leads at (w .held) (pick (w .held .state .bearer .present) (startLinked w at s) (onHeld w (startUnlinked (w .held) at s)) .held)) (sym e)
-    (go (w .held .state .bearer .present))
+    subst (λ (s : Step). Leads at (w .held) (pick (w .held .state .bearer .present) (startOn w at s) (onHeld w (startUnlinked (w .held) at s)) .held)) (sym e)
+    (go (w .held .state .bearer .present) (barred (w .held .state .options) (w .held .state .bearer) (WaitNotification c ms age)))
   where
-    go : (b : Bool) → Leads at (w .held) (pick b (startLinked w at (WaitNotification c ms age)) (onHeld w (startUnlinked (w .held) at (WaitNotification c ms age))) .held)
-    go true = leads-then {g = waitsFor (w .held) at ms} (other refl refl refl refl refl refl refl refl refl) (leads-check (waitsFor (w .held) at ms) at c ms age e)
-    go false = leads-badly (w .held) at NotConnected (λ f. let z : _≡_ {A = ℕ} 0 1 = cc in omega arith)
+    go : (b d : Bool) → Leads at (w .held) (pick b (pick d (onHeld w (ends (w .held) at BearerClosed)) (startLinked w at (WaitNotification c ms age))) (onHeld w (startUnlinked (w .held) at (WaitNotification c ms age))) .held)
+    go true true = leads-badly (w .held) at BearerClosed (λ f. let z : _≡_ {A = ℕ} 0 1 = cc in omega arith)
+    go true false = leads-then {g = waitsFor (w .held) at ms} (other refl refl refl refl refl refl refl refl refl) (leads-check (waitsFor (w .held) at ms) at c ms age e)
+    go false d = leads-badly (w .held) at NotConnected (λ f. let z : _≡_ {A = ℕ} 0 1 = cc in omega arith)
 
 -- ---- either
 

@@ -34,7 +34,7 @@ use Rattle.state.specs.declared.Step.the-variants.{WaitNotification}
 use Rattle.state.specs.declared.StepResult.{StepResult}
 use Rattle.state.specs.declared.Results.{Results}
 use Rattle.state.specs.declared.StepStatus.{StepStatus}
-use Rattle.state.specs.declared.StepStatus.the-variants.{Ok, Timeout, NotConnected, NotFound, AttError, TooLong, Disconnected, TableFull}
+use Rattle.state.specs.declared.StepStatus.the-variants.{Ok, Timeout, NotConnected, NotFound, AttError, TooLong, Disconnected, TableFull, BearerClosed}
 use Rattle.script_rules.specs.World.{Held, onState}
 use Rattle.script_rules.specs.Finish.{resultPart, kept, ended, finish}
 use Rattle.script_rules.specs.Waiting.{waiting}
@@ -213,6 +213,7 @@ ok-is (AttError code) e = absurd (false≢true e)
 ok-is TooLong e = absurd (false≢true e)
 ok-is Disconnected e = absurd (false≢true e)
 ok-is TableFull e = absurd (false≢true e)
+ok-is BearerClosed e = absurd (false≢true e)
 
 kept-other : {h g : Held} → Other h g → keptResults g ≡ keptResults h
 kept-other o = ap₂ (λ (s : List ℕ) (r : Results). valued (λ x. x .len) resultPart s 0 (kept r)) (o .store) (o .results)

@@ -11,6 +11,7 @@ use Rattle.lists.specs.Blocks.{Valued}
 use Rattle.time.specs.declared.Micros.{Micros}
 use Rattle.att_pdu.specs.Numbers.{opHandleValueInd}
 use Rattle.notifications.specs.declared.Notification.{Notification}
+use Rattle.state.specs.declared.Options.{Options}
 use Rattle.state_rules.specs.Refusals.{accepted}
 use Rattle.script_rules.specs.World.{Held}
 use Rattle.thm_trail.specs.Calls.{Call, batch, timer, connected, disconnected, advertising, scanResponse, fragment, reads, timeOf, does, left, fresh}
@@ -69,11 +70,11 @@ abbrev pub nothingYet : Brought
 nothingYet = record { air = silence; links = 0; notices = [] }
 
 -- by all calls since
-abbrev pub brought : List ℕ → List Call → Brought
-brought store cs = broughtBy nothingYet (fresh store) cs
+abbrev pub brought : Options → List ℕ → List Call → Brought
+brought options store cs = broughtBy nothingYet (fresh options store) cs
 
-abbrev pub noticesOf : List ℕ → List Call → List (Valued Notification)
-noticesOf store cs = brought store cs .notices
+abbrev pub noticesOf : Options → List ℕ → List Call → List (Valued Notification)
+noticesOf options store cs = brought options store cs .notices
 
-abbrev pub linksOf : List ℕ → List Call → ℕ
-linksOf store cs = brought store cs .links
+abbrev pub linksOf : Options → List ℕ → List Call → ℕ
+linksOf options store cs = brought options store cs .links

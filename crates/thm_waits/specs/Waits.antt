@@ -17,12 +17,13 @@ use Rattle.gatt_characteristics.specs.declared.Which.the-variants.{At}
 use Rattle.notifications.specs.declared.Notification.{Notification}
 use Rattle.notifications.specs.declared.Age.the-variants.{Within}
 use Rattle.state.specs.Fresh.{noQueued}
+use Rattle.state.specs.declared.Options.{Options}
 use Rattle.state.specs.declared.Queued.{Queued}
 use Rattle.state.specs.declared.Step.{Step}
 use Rattle.state.specs.declared.Step.the-variants.{WaitNotification}
 use Rattle.state.specs.declared.StepResult.{StepResult}
 use Rattle.state.specs.declared.StepStatus.{StepStatus}
-use Rattle.state.specs.declared.StepStatus.the-variants.{Ok, Timeout, NotConnected, NotFound, AttError, TooLong, Disconnected, TableFull}
+use Rattle.state.specs.declared.StepStatus.the-variants.{Ok, Timeout, NotConnected, NotFound, AttError, TooLong, Disconnected, TableFull, BearerClosed}
 use Rattle.state_kinds.specs.Kinds.{kindOf, waitNotification}
 use Rattle.script_rules.specs.World.{Held}
 use Rattle.script_rules.specs.declared.Placed.{Placed}
@@ -44,6 +45,7 @@ isOk (AttError code) = false
 isOk TooLong = false
 isOk Disconnected = false
 isOk TableFull = false
+isOk BearerClosed = false
 
 abbrev pub isWaitNotification : Step → Bool
 isWaitNotification s = eqb (kindOf s) waitNotification
@@ -61,8 +63,8 @@ waitFromBy n q b h (c ∷ cs) =
     let now = brings b c (does h c .refusal) in
     waitFromBy (pick (passedIn all (givenBy h c)) (length (now .notices)) n) all now (left (does h c)) cs
 
-abbrev pub waitFrom : List ℕ → List Call → ℕ
-waitFrom store cs = waitFromBy 0 [] nothingYet (fresh store) cs
+abbrev pub waitFrom : Options → List ℕ → List Call → ℕ
+waitFrom options store cs = waitFromBy 0 [] nothingYet (fresh options store) cs
 
 -- ---- `contains`: what a batch hands in with each step that it has room for, in the order of `taken`
 

@@ -7,6 +7,7 @@ use native.Mathlib.Omega.{arith}
 use lib.ListN.{length, take, drop}
 use lib.Seq.{take-at}
 use Rattle.bytes.specs.Choice.{pick}
+use Rattle.state.specs.declared.Options.{Options}
 use Rattle.script_rules.specs.World.{Held, World}
 use Rattle.script_rules.specs.Outcome.{Outcome, done, unsent}
 use Rattle.script_rules.specs.Sound.{Sound}
@@ -114,5 +115,5 @@ on-wire-call h c z =
     go false e = silent (outOf c) (refusedOf h c) (refused-sent h c) (refused-out h c)
 
 -- ---- THE THEOREM: after any sequence of calls from a fresh state with any store, refused ones too, the next call
-pub on-wire : (store : List ℕ) (cs : List Call) (c : Call) → let h = run (fresh store) cs in OnWire h c (does h c)
-on-wire store cs c = on-wire-call (run (fresh store) cs) c (books store cs .sizes)
+pub on-wire : (options : Options) (store : List ℕ) (cs : List Call) (c : Call) → let h = run (fresh options store) cs in OnWire h c (does h c)
+on-wire options store cs c = on-wire-call (run (fresh options store) cs) c (books options store cs .sizes)

@@ -28,12 +28,12 @@ use Rattle.gatt_descriptors.specs.declared.Range.the-variants as range
 use Rattle.gatt_descriptors.specs.Range.{descriptorRange}
 use Rattle.state.specs.declared.Step.{Step}
 use Rattle.state.specs.declared.Step.the-variants.{Scan, Connect, ExchangeMtu, DiscoverServices, DiscoverCharacteristics, Subscribe, Write, Read, WaitNotification, Wait, Disconnect, Capture, CaptureSecrets}
-use Rattle.state.specs.declared.StepStatus.the-variants.{TooLong}
+use Rattle.state.specs.declared.StepStatus.the-variants.{TooLong, BearerClosed}
 use Rattle.state_rules.specs.Steps.{defaultMtu}
 use Rattle.script_rules.specs.World.{World, onHeld, onState}
 use Rattle.script_rules.specs.Send.{request}
 use Rattle.script_rules.specs.Discovery.{primaryService, characteristicType, lastHandle, asking, discoverServices, askRange, discoverDescriptors, discoverCharacteristics}
-use Rattle.script_rules.specs.Start.{ends, startUnlinked, forgotten, discoverIn, configuration, subscribeAt, subscribe, commanded, write, read, disconnect, startLinked, start}
+use Rattle.script_rules.specs.Start.{ends, startUnlinked, forgotten, discoverIn, configuration, subscribeAt, subscribe, commanded, write, read, disconnect, startLinked, barred, startOn, start}
 use Rattle.thm_wire.specs.Wire.{mtuOf}
 use Rattle.thm_wire.proofs.Sends.{Sends, quiet, nothing, either, Mtu, sends-att, sends-request}
 
@@ -134,8 +134,8 @@ module _ (m : ℕ) (k : Mtu m) (w : World) (at : Micros) where
 
 -- with no link, nothing
 pub sends-start : (w : World) (at : Micros) → (w .held .state .bearer .present ≡ true → Mtu (w .held .state .bearer .link .mtu)) → Sends (mtuOf w) (w .told) (start w at .told)
-unfolding start
-sends-start w at k = go (w .held .state .bearer .present) refl
+unfolding start startOn
+sends-start w at k = go (w .held .state .bearer .present) refl (barred (w .held .state .options) (w .held .state .bearer) s)
   where
     s : Step
     s = w .held .state .running .step
@@ -143,6 +143,7 @@ sends-start w at k = go (w .held .state .bearer .present) refl
     m : ℕ
     m = w .held .state .bearer .link .mtu
 
-    go : (b : Bool) → w .held .state .bearer .present ≡ b → Sends (pick b m 0) (w .told) (pick b (startLinked w at s) (onHeld w (startUnlinked (w .held) at s)) .told)
-    go true e = sends-linked m (k e) w at refl s
-    go false e = nothing 0 (w .told)
+    go : (b : Bool) → w .held .state .bearer .present ≡ b → (c : Bool) → Sends (pick b m 0) (w .told) (pick b (pick c (onHeld w (ends (w .held) at BearerClosed)) (startLinked w at s)) (onHeld w (startUnlinked (w .held) at s)) .told)
+    go true e true = nothing m (w .told)
+    go true e false = sends-linked m (k e) w at refl s
+    go false e c = nothing 0 (w .told)

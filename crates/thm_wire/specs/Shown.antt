@@ -17,7 +17,7 @@ use Rattle.l2cap.specs.Frame.{Written, l2capFrame}
 use Rattle.l2cap.proofs.FrameLaws.{framed-bytes}
 use Rattle.att_pdu.specs.Pdu.{exchangeMtuReq}
 use Rattle.gatt_characteristics.specs.Characteristic.{upFrom}
-use Rattle.state.specs.Fresh.{freshCentral}
+use Rattle.state.specs.Fresh.{noOptions, freshCentral}
 use Rattle.state.specs.declared.Step.the-variants.{ExchangeMtu}
 use Rattle.state_rules.specs.Steps.{stepFits}
 use Rattle.state_rules.specs.Fit.{countsFit, fits}
@@ -28,7 +28,7 @@ use Rattle.script_rules.specs.Send.{more, send, request}
 use Rattle.script_rules.specs.declared.Batch.{Batch}
 use Rattle.script_rules.specs.BatchSteps.{steps}
 use Rattle.script_rules.specs.Waiting.{pushOne, pushAll, takeStep}
-use Rattle.script_rules.specs.Start.{startLinked, start}
+use Rattle.script_rules.specs.Start.{startLinked, startOn, start}
 use Rattle.script_rules.specs.Script.{advances, advance}
 use Rattle.script_rules.specs.Outcome.{Outcome, done, refused, unsent}
 use Rattle.script_rules.specs.Batch.{batchFits, countersFit, gateBatch, pushSteps}
@@ -63,9 +63,9 @@ module _ (store out : List ℕ) (s : length store ≡ storeSize) (o : length out
   unfolding freshCentral firstRefusal fits countsFit all upFrom
   fresh-passes = ap (λ (n : ℕ). gateConnected freshCentral n (length out) (at 1)) s ∙ ap (λ (n : ℕ). gateConnected freshCentral storeSize n (at 1)) o
 
-  comes-is : run (fresh store) comes ≡ met
+  comes-is : run (fresh noOptions store) comes ≡ met
   unfolding freshCentral onConnected connect advance advances
-  comes-is = ap (λ (g : ℕ). left (pick (eqb g accepted) (done (connect (begins (fresh store) (connected out 64 (at 1))) 64 (at 1))) (refused freshCentral g store out))) fresh-passes
+  comes-is = ap (λ (g : ℕ). left (pick (eqb g accepted) (done (connect (begins (fresh noOptions store) (connected out 64 (at 1))) 64 (at 1))) (refused freshCentral g store out))) fresh-passes
 
   -- the batch is not refused
   met-passes : gateBatch (met .state) (length store) (length out) (at 2) asks 0 ≡ 0
@@ -78,7 +78,7 @@ module _ (store out : List ℕ) (s : length store ≡ storeSize) (o : length out
 
   -- one frame goes out
   told-is : advance (begins met next) (at 2) .told ≡ send (record { sent = unsent; out = out }) cidAtt (exchangeMtuReq 23)
-  unfolding freshCentral advance advances pushAll pushOne takeStep start startLinked request
+  unfolding freshCentral advance advances pushAll pushOne takeStep start startOn startLinked request
   told-is = refl
 
   abbrev sent : Told
@@ -90,16 +90,16 @@ module _ (store out : List ℕ) (s : length store ≡ storeSize) (o : length out
 
   -- what is read off the trail
   along-is : sentAlong (begins met next) (goes met next) ≡ asSent 23 (take (sent .sent .bytes) (sent .out)) ++ []
-  unfolding freshCentral onwards pushAll pushOne takeStep start startLinked request
+  unfolding freshCentral onwards pushAll pushOne takeStep start startOn startLinked request
   along-is = refl
 
   by-is : sentBy met next ≡ asSent 23 (take (sent .sent .bytes) (sent .out)) ++ []
   by-is = ap (λ (g : ℕ). pick (eqb g accepted) (sentAlong (begins met next) (goes met next)) []) met-passes ∙ along-is
 
   -- the call tells one frame of 7 bytes, and writes no other byte
-  pub shown-out : let x = does (run (fresh store) comes) next in (x .sent .frames ≡ 1) × (x .sent .bytes ≡ 7) × (x .out ≡ mtuFrame ++ drop 7 out)
+  pub shown-out : let x = does (run (fresh noOptions store) comes) next in (x .sent .frames ≡ 1) × (x .sent .bytes ≡ 7) × (x .out ≡ mtuFrame ++ drop 7 out)
   shown-out =
-      let e : does (run (fresh store) comes) next ≡ done (advance (begins met next) (at 2)) = ap (λ (h : Held). does h next) comes-is ∙ does-is in
+      let e : does (run (fresh noOptions store) comes) next ≡ done (advance (begins met next) (at 2)) = ap (λ (h : Held). does h next) comes-is ∙ does-is in
       let f = told-is ∙ sent-is in (
         ap (λ (x : Outcome). x .sent .frames) e ∙ ap (λ (t : Told). t .sent .frames) f,
         ap (λ (x : Outcome). x .sent .bytes) e ∙ ap (λ (t : Told). t .sent .bytes) f,
@@ -110,7 +110,7 @@ module _ (store out : List ℕ) (s : length store ≡ storeSize) (o : length out
   asked = record { channel = 4; payload = 0x02 ∷ 0x17 ∷ 0x00 ∷ [] }
 
   -- read off the trail, with the MTU of a new link
-  pub shown-sent : sentBy (run (fresh store) comes) next ≡ record { frame = asked; mtu = 23 } ∷ []
+  pub shown-sent : sentBy (run (fresh noOptions store) comes) next ≡ record { frame = asked; mtu = 23 } ∷ []
   unfolding le
   shown-sent = ap (λ (h : Held). sentBy h next) comes-is ∙ by-is ∙ ap (λ (t : Told). asSent 23 (take (t .sent .bytes) (t .out)) ++ []) sent-is
 
@@ -119,6 +119,6 @@ module _ (store out : List ℕ) (s : length store ≡ storeSize) (o : length out
   shown-parsed = refl
 
   -- an output too short is refused
-  pub shown-refused : done? (run (fresh store) comes) (timer [] (at 3)) ≡ false
+  pub shown-refused : done? (run (fresh noOptions store) comes) (timer [] (at 3)) ≡ false
   unfolding freshCentral firstRefusal fits countsFit all upFrom
   shown-refused = ap (λ (h : Held). done? h (timer [] (at 3))) comes-is ∙ ap (λ (n : ℕ). eqb (gate (met .state) n 0 (at 3)) accepted) s

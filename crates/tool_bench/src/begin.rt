@@ -6,6 +6,7 @@ use crate::hear;
 use crate::row::Row;
 use state::Bearer;
 use state::Link;
+use state::Options;
 use state::Running;
 use state_core::Core;
 use uuid::Uuid;
@@ -19,8 +20,10 @@ const SERVICE: u64 = 0x00FF_0001;
 // Declaration and value at handle 1, no properties, no CCCD known. Added to itself it is at the next handle.
 const CHARACTERISTIC: u64 = 0x0001_0001_0000_0000;
 
-// 20 bytes of handle 1.
-const NOTIFICATION: u64 = 0x1400_0000_0000_0001;
+// Of handle 1; where its length stands.
+const NOTIFICATION: u64 = 1;
+
+const LENGTH: u64 = 0x0100_0000_0000_0000;
 
 // 31 bytes in an ADV_IND on channel 37; where the length of its scan response stands, and the bit of none.
 const REPORT: u64 = 0x001F_0025;
@@ -54,6 +57,7 @@ fn bearer(r: Row) -> Bearer {
             terminating: false,
         },
         present: r.linked,
+        closed: false,
     }
 }
 
@@ -67,6 +71,7 @@ pub fn core(r: Row) -> Core {
         counts,
         reports: 64,
         key_count: r.asked,
+        options: Options { strict: false },
     }
 }
 
@@ -107,7 +112,12 @@ fn lay_steps(tables: &mut [u64; 1152], r: Row) {
     lay(tables, words::STEP_CONNECT, 64, connect, 0);
 }
 
-fn lay_known(tables: &mut [u64; 1152]) {
+// What is kept of every notification, of so many bytes.
+fn notification_word(heard: u8) -> u64 {
+    NOTIFICATION + LENGTH * (heard as u64)
+}
+
+fn lay_known(tables: &mut [u64; 1152], r: Row) {
     lay(tables, words::SERVICE_LOW, 32, UNLISTED.low, 0);
     lay(tables, words::SERVICE_HIGH, 32, UNLISTED.high, 0);
     lay(tables, words::SERVICE, 32, SERVICE, 0);
@@ -121,7 +131,13 @@ fn lay_known(tables: &mut [u64; 1152]) {
         CHARACTERISTIC,
     );
     lay(tables, words::NOTIFICATION_AT, 32, 0, 0);
-    lay(tables, words::NOTIFICATION, 32, NOTIFICATION, 0);
+    lay(
+        tables,
+        words::NOTIFICATION,
+        32,
+        notification_word(r.heard),
+        0,
+    );
 }
 
 // What is heard of every advertiser.
@@ -144,6 +160,6 @@ pub fn lay_tables(tables: &mut [u64; 1152], r: Row) {
     lay_steps(tables, r);
     lay(tables, words::RESULT_AT, 64, 0, 0);
     lay(tables, words::RESULT, 64, 0, 0);
-    lay_known(tables);
+    lay_known(tables, r);
     lay_heard(tables, r);
 }

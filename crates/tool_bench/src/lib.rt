@@ -86,3 +86,19 @@ pub extern "C" fn lent_fragments(
     begin::lay_tables(tables, r);
     talk::fragments(begin::core(r), tables, store, out, n, start, fragment)
 }
+
+// What n notifications cost under a wait that goes on: it looks for `needle` bytes in 32 values of `each`.
+#[no_mangle]
+pub extern "C" fn lent_searches(
+    n: u32,
+    each: u8,
+    needle: u8,
+    tables: &mut [u64; 1152],
+    store: &mut [u8],
+    out: &mut [u8],
+    fragment: &[u8],
+) -> u64 {
+    let r = row::searching(each, needle);
+    begin::lay_tables(tables, r);
+    talk::fragments(begin::core(r), tables, store, out, n, true, fragment)
+}

@@ -17,6 +17,8 @@ pub struct Row {
     pub deadline: Micros,
     pub counts: Counts,
     pub counters: Counters,
+    // How many bytes each kept notification has.
+    pub heard: u8,
     pub linked: bool,
     pub pending: u8,
     // The first advertiser that is kept, how many are asked, and the length of a scan response, where 32 is none.
@@ -27,6 +29,8 @@ pub struct Row {
 
 // The link's.
 pub const HANDLE: u16 = 64;
+
+const HEARD: u8 = 20;
 
 const LATE: Micros = Micros(60_000_000);
 
@@ -87,6 +91,7 @@ fn listens(step: Step, first: u32, asked: usize, response: u8, half: bool) -> Ro
         deadline: LATE,
         counts: if half { HALF_FULL } else { EMPTY },
         counters: counters(if half { 16 } else { 0 }, 0),
+        heard: HEARD,
         linked: false,
         pending: 0,
         first,
@@ -124,6 +129,7 @@ pub fn timed() -> Row {
             notifications: 0,
         },
         counters: counters(0, 0),
+        heard: HEARD,
         linked: false,
         pending: 0,
         first: 0,
@@ -160,6 +166,7 @@ fn talks(step: Step, pending: u8, waiting: usize, characteristics: usize, wait_f
             notifications: 32,
         },
         counters: counters(32, wait_from),
+        heard: HEARD,
         linked: true,
         pending,
         first: 0,
@@ -180,11 +187,18 @@ fn in_phase(r: Row, phase: u8) -> Row {
     o
 }
 
+// A wait looks at all that is kept: for `needle` bytes in values of `each`.
+pub fn searching(each: u8, needle: u8) -> Row {
+    let mut o = looks_for(talks(WAITS, 0, 0, 20, 0), needle);
+    o.heard = each;
+    o
+}
+
 // Row 0: 65 waits of 4 bytes, which nothing kept ends. Row 1: one, which looks at all that is kept. Row 2: 65 Reads. Row 3: discovery
 // asks for the characteristics of a service.
 pub fn talking(row: u8) -> Row {
     if row == GOES_ON {
-        return looks_for(talks(WAITS, 0, 0, 20, 0), 4);
+        return searching(HEARD, 4);
     }
     if row == READS {
         let step = Step::Read {

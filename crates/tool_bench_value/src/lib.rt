@@ -62,3 +62,23 @@ pub extern "C" fn value_fragments(
         fragment,
     )
 }
+
+// What n notifications cost under a wait that goes on, as lent_searches.
+#[no_mangle]
+pub extern "C" fn value_searches(
+    n: u32,
+    each: u8,
+    needle: u8,
+    store: &mut [u8],
+    out: &mut [u8],
+    fragment: &[u8],
+) -> u64 {
+    talk::fragments(
+        begin::state(row::searching(each, needle)),
+        store,
+        out,
+        n,
+        true,
+        fragment,
+    )
+}

@@ -1,5 +1,6 @@
-// The library at work, in plain words: one bay head's advertisement taken apart and searched, and connection parameter
-// requests judged and answered.
+// The library at work, in plain words: one bay head's advertisement taken apart and searched, what heads tell of a service, and
+// connection parameter requests judged and answered.
+mod presences;
 mod requests;
 mod searches;
 mod structures;
@@ -125,5 +126,6 @@ fn main() {
     services(&data, &response);
     no_services(&data, &response);
     damage(&damaged);
+    presences::heads();
     judgements();
 }

@@ -52,7 +52,7 @@ fn of_bearer(h: u64, b: Bearer) -> u64 {
     let e = more(d, link.mtu as u64);
     let f = more(e, link.pending as u64);
     let g = more_of_flag(f, link.terminating);
-    more_of_flag(g, b.present)
+    more_of_flag(more_of_flag(g, b.present), b.closed)
 }
 
 fn of_running(h: u64, r: Running) -> u64 {
@@ -69,7 +69,11 @@ fn of_running(h: u64, r: Running) -> u64 {
 fn of_core(h: u64, c: Core) -> u64 {
     let a = of_counters(of_counts(h, c.counts), c.counters);
     let b = of_running(of_bearer(a, c.bearer), c.running);
-    more(more(b, c.reports as u64), c.key_count as u64)
+    let o = c.options;
+    more_of_flag(
+        more(more(b, c.reports as u64), c.key_count as u64),
+        o.strict,
+    )
 }
 
 // Of every field of the core and every word of the tables, dead places and spare bits too.

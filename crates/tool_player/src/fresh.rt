@@ -1,15 +1,19 @@
-// The state before the first call: all of it is zero.
+// The state before the first call: all of it is zero but for the options that are chosen.
 use state::Bearer;
 use state::Counters;
 use state::Counts;
 use state::Link;
+use state::Options;
 use state::Running;
 use state::Step;
 use state_core::Core;
 use time::Micros;
 use time::Millis;
 
-pub fn core() -> Core {
+// What the Rust does.
+pub const OLD_MODE: Options = Options { strict: false };
+
+pub fn core(options: Options) -> Core {
     Core {
         running: Running {
             deadline: Micros(0),
@@ -30,6 +34,7 @@ pub fn core() -> Core {
                 terminating: false,
             },
             present: false,
+            closed: false,
         },
         counters: Counters {
             next_index: 0,
@@ -47,6 +52,7 @@ pub fn core() -> Core {
         },
         reports: 0,
         key_count: 0,
+        options,
     }
 }
 

@@ -34,7 +34,7 @@ fn turn(
 
 // A proved loop has to end, and nothing says that the input does: the turns are counted down from a number that no run uses up.
 fn run(tables: &mut [u64; 1152], body: &mut [u8], store: &mut [u8], out: &mut [u8], to: &mut [u8]) {
-    let mut core = fresh::core();
+    let mut core = fresh::core(fresh::OLD_MODE);
     let mut turns = u64::MAX;
     while 0 < turns {
         let going = turn(core, tables, body, store, out, to);

@@ -3,6 +3,7 @@ use crate::fresh;
 use crate::tell;
 use central_answers::Answer;
 use state::LinkRequest;
+use state::Options;
 use state::Sent;
 use state_core::Core;
 use time::Micros;
@@ -65,7 +66,7 @@ fn at_of(body: &[u8]) -> Micros {
 // ---- the calls that only read
 
 fn only_reads(tag: u8) -> bool {
-    record::TIMER_US <= tag
+    (record::TIMER_US <= tag) & (tag != record::FRESH_WITH)
 }
 
 fn read(
@@ -87,6 +88,7 @@ fn read(
             tell::given(to, index, given, store)
         }
         record::LINKS => tell::links(to, core, tables),
+        record::MODE => tell::mode(to, core),
         record::PASSED_ON => {
             let index = bytes_numbers::le32(body, 0);
             tell::passed(
@@ -110,9 +112,17 @@ fn quiet(core: Core, refusal: u8) -> Answer {
 }
 
 // The store and the output keep their bytes at a fresh state: no answer may depend on them.
-fn begin(tables: &mut [u64; 1152]) -> Answer {
+fn begin(tables: &mut [u64; 1152], options: Options) -> Answer {
     fresh::clear(tables);
-    quiet(fresh::core(), 0)
+    quiet(fresh::core(options), 0)
+}
+
+// One bit an option: the lowest is strict.
+fn options_in(body: &[u8]) -> Options {
+    let word = bytes_numbers::le64(body, 0);
+    Options {
+        strict: word % 2 == 1,
+    }
 }
 
 fn push(
@@ -174,7 +184,8 @@ fn play(
     out: &mut [u8],
 ) -> Answer {
     match tag {
-        record::FRESH => begin(tables),
+        record::FRESH => begin(tables, fresh::OLD_MODE),
+        record::FRESH_WITH => begin(tables, options_in(body)),
         record::BATCH => push(core, tables, body, store, out),
         record::TIMER => script_events::on_timer(core, tables, store, out, at_of(body)),
         record::CONNECTED => connect(core, tables, body, store, out),

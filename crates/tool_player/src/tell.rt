@@ -52,6 +52,12 @@ pub fn links(to: &mut [u8], core: Core, tables: &[u64; 1152]) -> bool {
     line::end(to, m)
 }
 
+pub fn mode(to: &mut [u8], core: Core) -> bool {
+    let n = line::text(to, 0, b"mode");
+    let m = tool_rows::mode(to, n, core.options, core.bearer);
+    line::end(to, m)
+}
+
 pub fn passed(to: &mut [u8], p: Passed, store: &[u8]) -> bool {
     let n = line::text(to, 0, b"passed_on");
     let m = tool_rows::passed(to, n, p, store);
@@ -85,6 +91,7 @@ pub fn advertised(to: &mut [u8], why: u8, a: AdvAction) -> bool {
 pub fn answer(to: &mut [u8], tag: u8, why: u8, sent: Sent, out: &[u8]) -> bool {
     match tag {
         record::FRESH => line::whole(to, b"fresh"),
+        record::FRESH_WITH => line::whole(to, b"fresh_with"),
         record::BATCH => sending(to, b"batch", why, sent, out),
         record::TIMER => sending(to, b"timer", why, sent, out),
         record::CONNECTED => sending(to, b"connected", why, sent, out),

@@ -7,6 +7,7 @@ use notifications::Notification;
 use radio_match::AdvAction;
 use state::Bearer;
 use state::LinkRequest;
+use state::Options;
 use state::Queued;
 use state::Running;
 use state::Sent;
@@ -219,6 +220,7 @@ fn status(to: &mut [u8], at: usize, x: StepStatus) -> usize {
         StepStatus::TooLong => status_code(to, at, 5, 0),
         StepStatus::Disconnected => status_code(to, at, 6, 0),
         StepStatus::TableFull => status_code(to, at, 7, 0),
+        StepStatus::BearerClosed => status_code(to, at, 8, 0),
     }
 }
 
@@ -307,6 +309,12 @@ pub fn bearer(to: &mut [u8], at: usize, b: Bearer, s: &[u8]) -> usize {
     let k = pending(to, m, l.pending);
     let j = flag(to, k, l.terminating);
     line::bytes_at(to, j, s, state_places::HELD_AT, b.held)
+}
+
+// What was chosen, and what that has made of the bearer.
+pub fn mode(to: &mut [u8], at: usize, o: Options, b: Bearer) -> usize {
+    let n = flag(to, at, o.strict);
+    flag(to, n, b.closed)
 }
 
 // ---- answers: the refusal stands before what is answered

@@ -80,6 +80,7 @@ fn failed(s: StepStatus) {
         StepStatus::AttError(code) => att_error(code),
         StepStatus::TooLong => tool_say::text(b"too long"),
         StepStatus::Disconnected => tool_say::text(b"disconnected"),
+        StepStatus::BearerClosed => tool_say::text(b"bearer closed"),
         _ => tool_say::text(b"table full"),
     }
 }

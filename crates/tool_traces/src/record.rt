@@ -30,6 +30,10 @@ pub const LINKS: u8 = 12;
 
 pub const PASSED_ON: u8 = 13;
 
+pub const FRESH_WITH: u8 = 14;
+
+pub const MODE: u8 = 15;
+
 // A tag, and a length of 4 bytes.
 const HEADER: usize = 5;
 
@@ -94,6 +98,8 @@ fn size_of(tag: u8) -> Size {
         DUMP => Size::Within(0, 0),
         LINKS => Size::Within(0, 0),
         PASSED_ON => Size::Within(4, 4),
+        FRESH_WITH => Size::Within(8, 8),
+        MODE => Size::Within(0, 0),
         _ => Size::Unknown,
     }
 }

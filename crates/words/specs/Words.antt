@@ -18,7 +18,7 @@ use Rattle.state.specs.Kept.{noResponse}
 use Rattle.state.specs.declared.Queued.{Queued}
 use Rattle.state.specs.declared.StepResult.{StepResult}
 use Rattle.state.specs.declared.StepStatus.{StepStatus}
-use Rattle.state.specs.declared.StepStatus.the-variants.{Ok, Timeout, NotConnected, NotFound, AttError, TooLong, Disconnected, TableFull}
+use Rattle.state.specs.declared.StepStatus.the-variants.{Ok, Timeout, NotConnected, NotFound, AttError, TooLong, Disconnected, TableFull, BearerClosed}
 use Rattle.state.specs.declared.Target.{Target}
 use Rattle.state.specs.declared.Target.the-variants as target
 use Rattle.state.specs.declared.Step.{Step}
@@ -101,9 +101,10 @@ flatOf a low high d =
 
 -- ---- a result: its time | index 32 bits, status 8, the status's code 8, 8 unused, length 8 | what it heard
 
+-- 7, and every number above 8, is a full table
 unfoldable pub statusOf : ℕ → ℕ → StepStatus
 statusOf n e =
-    pick (eqb n 0) Ok (pick (eqb n 1) Timeout (pick (eqb n 2) NotConnected (pick (eqb n 3) NotFound (pick (eqb n 4) (AttError e) (pick (eqb n 5) TooLong (pick (eqb n 6) Disconnected TableFull))))))
+    pick (eqb n 0) Ok (pick (eqb n 1) Timeout (pick (eqb n 2) NotConnected (pick (eqb n 3) NotFound (pick (eqb n 4) (AttError e) (pick (eqb n 5) TooLong (pick (eqb n 6) Disconnected (pick (eqb n 8) BearerClosed TableFull)))))))
 
 -- a word that is a time
 abbrev pub timeOf : ℕ → Micros

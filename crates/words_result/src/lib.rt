@@ -56,6 +56,7 @@ fn status_bits(s: StepStatus) -> u64
         StepStatus::TooLong => 5,
         StepStatus::Disconnected => 6,
         StepStatus::TableFull => 7,
+        StepStatus::BearerClosed => 8,
     }
 }
 
@@ -83,6 +84,7 @@ fn status_of(kind: u8, code: u8) -> StepStatus
         4 => StepStatus::AttError(code),
         5 => StepStatus::TooLong,
         6 => StepStatus::Disconnected,
+        8 => StepStatus::BearerClosed,
         _ => StepStatus::TableFull,
     }
 }

@@ -1,6 +1,6 @@
 //! The files of tests/attacks: calls in words, and behind each what its line must be (docs/TRACE.md, 'Attacks').
 
-use crate::trace::{Batch, Call, one};
+use crate::trace::{Batch, Call, four, one};
 use oracle::ble::central::{Step, Target, Uuid};
 use std::str::{FromStr, SplitWhitespace};
 
@@ -177,6 +177,8 @@ fn call(text: &str, turn: u64, later: u64) -> Result<Call, String> {
         "result" => Call::Result { index: number(w, "index")? },
         "dump" => Call::Dump,
         "links" => Call::Links,
+        "fresh_with" => Call::FreshWith { options: u64::from(flag(w, "old", "strict")?) * four::STRICT },
+        "mode" => Call::Mode,
         "passed_on" => Call::PassedOn { index: number(w, "index")? },
         other => return Err(format!("{other} is no call")),
     };

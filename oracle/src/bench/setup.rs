@@ -62,12 +62,41 @@ impl Talk {
     }
 }
 
+/// The worst case of a search: all bytes kept are equal, and the needle has another in its last place.
+#[derive(Clone, Copy)]
+pub struct Search {
+    /// How many bytes each value has.
+    pub each: u8,
+    /// And the needle.
+    pub needle: u8,
+}
+
+impl Search {
+    pub fn needle(self) -> Vec<u8> {
+        let mut needle = vec![b'A'; self.needle.into()];
+        needle[usize::from(self.needle) - 1] = b'B';
+        needle
+    }
+
+    pub fn heard(self) -> Vec<u8> {
+        vec![b'A'; self.each.into()]
+    }
+
+    pub fn frame(self) -> Vec<u8> {
+        att_frame(&[&[0x1B, 1, 0], &self.heard()[..]].concat())
+    }
+}
+
 /// The values of steps and notifications, where the port has them.
-pub fn lend_values(l: &mut Lent, talk: Talk) {
+pub fn lend(l: &mut Lent, needle: &[u8], heard: &[u8]) {
     for block in l.store[STEPS_AT..].chunks_mut(VALUE).take(1 + CALLS_A_SET_UP as usize) {
-        block[..4].copy_from_slice(&talk.needle());
+        block[..needle.len()].copy_from_slice(needle);
     }
     for block in l.store[NOTIFICATIONS_AT..].chunks_mut(VALUE).take(KEPT) {
-        block[..HEARD.len()].copy_from_slice(&HEARD);
+        block[..heard.len()].copy_from_slice(heard);
     }
+}
+
+pub fn lend_values(l: &mut Lent, talk: Talk) {
+    lend(l, &talk.needle(), &HEARD);
 }

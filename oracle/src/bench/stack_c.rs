@@ -86,6 +86,7 @@ fn reading(rows: &mut Rows, m: &Memory) {
     rows.row("report_data from C", MOST, &mut || refusal(m.report_data(63)));
     rows.row("report_response from C", MOST, &mut || refusal(m.report_response(63)));
     rows.row("report_body from C", MOST, &mut || refusal(m.report_body(63, 1, 2)));
+    rows.row("report_presence from C", MOST, &mut || refusal(m.report_presence(63, 1, 2)));
 }
 
 pub fn rows(rows: &mut Rows) {

@@ -1,6 +1,6 @@
 //! States of the Rust that calls are made on, as crates/tool_bench has them.
 
-use crate::setup::{CALLS_A_SET_UP, HEARD, KEPT, Talk};
+use crate::setup::{CALLS_A_SET_UP, HEARD, KEPT, Search, Talk};
 use oracle::ble::central::{
     AdvReport, Central, CentralLink, Characteristic, Notification, Running, Service, Step, Uuid,
 };
@@ -34,13 +34,20 @@ pub fn waiting() -> Central {
     Central { running: running(WAIT, 1000, 0), queue: vec![WAIT; CALLS_A_SET_UP as usize], ..begun() }
 }
 
+fn wait(contains: Vec<u8>) -> Step {
+    Step::WaitNotification { characteristic: unlisted(), contains, within_ms: 60_000 }
+}
+
 pub fn step(talk: Talk) -> Step {
-    let characteristic = unlisted();
     match talk {
-        Talk::Reads => Step::Read { characteristic },
+        Talk::Reads => Step::Read { characteristic: unlisted() },
         Talk::Discovers => Step::DiscoverCharacteristics { service: unlisted() },
-        _ => Step::WaitNotification { characteristic, contains: talk.needle().to_vec(), within_ms: 60_000 },
+        _ => wait(talk.needle().to_vec()),
     }
+}
+
+fn kept(value: Vec<u8>) -> Vec<Notification> {
+    vec![Notification { at_us: 0, handle: 1, value, indication: false }; KEPT]
 }
 
 fn pending(talk: Talk) -> Option<u8> {
@@ -54,16 +61,24 @@ fn pending(talk: Talk) -> Option<u8> {
 /// What comes on a link, as crates/tool_bench/src/row.rt has it.
 pub fn linked(talk: Talk) -> Central {
     let queued = if matches!(talk, Talk::Ends | Talk::Reads) { CALLS_A_SET_UP as usize } else { 0 };
-    let heard = Notification { at_us: 0, handle: 1, value: HEARD.to_vec(), indication: false };
     Central {
         queue: vec![step(talk); queued],
         running: running(step(talk), 60_000_000, u8::from(talk == Talk::Discovers)),
         link: Some(CentralLink { handle: 64, mtu: 247, pending: pending(talk), ..CentralLink::default() }),
         services: vec![Service { start: 1, end: 255, uuid: unlisted() }],
         characteristics: known(if talk == Talk::Discovers { 0 } else { 20 }),
-        notifications: vec![heard; KEPT],
+        notifications: kept(HEARD.to_vec()),
         notified: KEPT as u64,
         wait_from: if talk == Talk::Ends { KEPT as u64 } else { 0 },
         ..begun()
+    }
+}
+
+/// A wait that looks at all that is kept.
+pub fn searching(search: Search) -> Central {
+    Central {
+        running: running(wait(search.needle()), 60_000_000, 0),
+        notifications: kept(search.heard()),
+        ..linked(Talk::GoesOn)
     }
 }

@@ -191,7 +191,11 @@ impl Port {
                 m.clear();
                 return Answer::Fresh;
             }
-            Call::Dump | Call::Links => return Answer::State,
+            Call::FreshWith { options } => {
+                m.fresh_with(*options);
+                return Answer::Fresh;
+            }
+            Call::Dump | Call::Links | Call::Mode => return Answer::State,
             Call::Batch(b) => self.push(b),
             Call::Timer { now } => m.on_timer(*now),
             Call::Connected { at, handle } => m.on_connected(*handle, *at),
@@ -242,7 +246,7 @@ impl Port {
         answer
     }
 
-    /// The line of docs/TRACE.md for an answer; for a dump and for `links` the state that the words say.
+    /// The line of docs/TRACE.md for an answer; for a dump, `links` and `mode` the state that the words say.
     pub fn line(&self, call: &Call, answer: &Answer) -> Vec<u8> {
         match state::central(&self.memory) {
             Ok(left) => answer::line(call, answer, &left),

@@ -1,6 +1,6 @@
 //! The port's C interface (crates/c_central): what every call is lent, and the calls.
 
-pub const CORE: usize = 35;
+pub const CORE: usize = 37;
 pub const TABLES: usize = 1_152;
 pub const STORE: usize = 43_631;
 pub const OUTPUT: usize = 16_315;
@@ -27,6 +27,7 @@ pub struct Memory {
 }
 
 unsafe extern "C" {
+    fn barleyrope_fresh_with_words(core: &mut [u64; CORE], tables: &mut [u64; TABLES], options: u64);
     fn barleyrope_push_steps_words(
         core: &mut [u64; CORE],
         tables: &mut [u64; TABLES],
@@ -173,6 +174,16 @@ unsafe extern "C" {
         high: u64,
         told: &mut Told,
     );
+    fn barleyrope_report_presence_words(
+        core: &[u64; CORE],
+        tables: &[u64; TABLES],
+        store: *const u8,
+        store_len: usize,
+        i: usize,
+        low: u64,
+        high: u64,
+        told: &mut Told,
+    );
 }
 
 impl Memory {
@@ -184,6 +195,12 @@ impl Memory {
     pub fn clear(&mut self) {
         self.core.fill(0);
         self.tables.fill(0);
+    }
+
+    /// The fresh state with these options, whatever stands there.
+    pub fn fresh_with(&mut self, options: u64) {
+        // SAFETY: nothing is kept.
+        unsafe { barleyrope_fresh_with_words(&mut self.core, &mut self.tables, options) }
     }
 
     pub fn push_steps(&mut self, at: u64, steps: &[u64], count: usize, values: &[u8]) -> Told {
@@ -351,6 +368,13 @@ impl Memory {
         let (mut told, s) = (UNTOLD, &self.store);
         // SAFETY: as above.
         unsafe { barleyrope_report_body_words(&self.core, &self.tables, s.as_ptr(), s.len(), i, low, high, &mut told) }
+        told
+    }
+
+    pub fn report_presence(&self, i: usize, low: u64, high: u64) -> Told {
+        let (mut told, s) = (UNTOLD, &self.store);
+        // SAFETY: as above.
+        unsafe { barleyrope_report_presence_words(&self.core, &self.tables, s.as_ptr(), s.len(), i, low, high, &mut told) }
         told
     }
 }

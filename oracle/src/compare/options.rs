@@ -32,6 +32,7 @@ impl Options {
                 groups: Groups { radio: true, link: true },
                 refusals: false,
                 aged: false,
+                strict: false,
                 calls: 200,
                 dumps: 9,
             },
@@ -47,7 +48,8 @@ impl Options {
                 "few" => o.few = true,
                 "refusals" => o.plan.refusals = true,
                 "aged" if one::IS_THERE => o.plan.aged = true,
-                "aged" => return Err("the Rust of docs/src has no aged wait".into()),
+                "strict" if one::IS_THERE => o.plan.strict = true,
+                "aged" | "strict" => return Err(format!("{word} asks for the extended Rust")),
                 _ => o.set(&word, words.next().ok_or(format!("{word} needs a value"))?)?,
             }
         }

@@ -39,15 +39,15 @@ fn differs(port: &mut impl Asked, calls: &[Call], most: u8) -> Option<Found> {
     None
 }
 
-/// Calls that change no state, and the first of a sequence.
+/// Calls that change no state.
 fn only_reads(call: &Call) -> bool {
-    use Call::{ConnectedHandle, Dump, Fresh, Links, PassedOn, TimerUs};
-    matches!(call, Fresh | Dump | Links | TimerUs | ConnectedHandle | Call::Result { .. } | PassedOn { .. })
+    use Call::{ConnectedHandle, Dump, Links, Mode, PassedOn, TimerUs};
+    matches!(call, Dump | Links | Mode | TimerUs | ConnectedHandle | Call::Result { .. } | PassedOn { .. })
 }
 
 /// A dump after each call, so that a difference in the state shows at the call that made it.
 fn with_dumps(calls: &[Call]) -> Vec<Call> {
-    let dumps = if one::IS_THERE { vec![Call::Dump, Call::Links] } else { vec![Call::Dump] };
+    let dumps = if one::IS_THERE { vec![Call::Dump, Call::Links, Call::Mode] } else { vec![Call::Dump] };
     calls.iter().filter(|c| !only_reads(c)).flat_map(|c| [&[c.clone()], dumps.as_slice()].concat()).collect()
 }
 
@@ -202,7 +202,9 @@ pub fn show(o: &Options, d: Difference, port: impl Asked) {
     println!("  oracle: {}", brief(Some(&d.wanted)));
     println!("  port:   {}", brief(d.got.as_deref()));
     println!("  {}", contrast(&d.wanted, d.got.as_deref()));
-    let mut calls: Vec<Call> = d.made[1..=d.at.max(1)].to_vec();
+    // A trial begins with `Fresh` of itself.
+    let first = usize::from(d.made[0] == Call::Fresh);
+    let mut calls: Vec<Call> = d.made[first..=d.at.max(1)].to_vec();
     write(&format!("{}/difference.trace", o.save), &calls);
     let most = if o.plan.refusals { gate::TABLE_FULL - 1 } else { 0 };
     let mut s = Shrinker { port, until: Instant::now() + MOST_TIME, tried: 0, most };

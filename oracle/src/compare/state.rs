@@ -2,6 +2,8 @@
 //! crates/words/specs/Words.antt and Tables.antt, and crates/state_places.
 
 use crate::exports::Memory;
+#[cfg(extended)]
+use oracle::ble::central::Options;
 use oracle::ble::central::{
     AdvReport, Central, CentralLink, Characteristic, Notification, Running, Service, Step, StepResult, StepStatus,
     Target, Uuid,
@@ -86,6 +88,8 @@ pub fn status(number: u8, code: u8) -> Option<StepStatus> {
         (4, code) => StepStatus::AttError(code),
         (5, 0) => StepStatus::TooLong,
         (6, 0) => StepStatus::Disconnected,
+        #[cfg(extended)]
+        (8, 0) => StepStatus::BearerClosed,
         _ => return None,
     })
 }
@@ -296,5 +300,9 @@ pub fn central(m: &Memory) -> Result<Central, String> {
         refused_steps: m.core[24],
         #[cfg(extended)]
         links: m.core[34],
+        #[cfg(extended)]
+        options: Options { strict: m.core[36] & 1 == 1 },
+        #[cfg(extended)]
+        closed: m.core[35] & 1 == 1,
     })
 }

@@ -52,7 +52,7 @@ fn first(o: &Options, found: Option<Difference>, sequences: u64) -> ExitCode {
 /// Fails on a difference, which is shown and shrunk, and on a cell that can be reached and was not, unless they are few.
 pub fn give(o: &Options, shown: Shown, port: impl Asked) -> ExitCode {
     if o.first {
-        return first(o, shown.found, shown.counts.calls[0]);
+        return first(o, shown.found, shown.counts.sequences());
     }
     report::print(o, &shown.counts, shown.took);
     let mut empty = report::empty(&shown.counts, o.plan);

@@ -1,9 +1,9 @@
 //! The views of a kept report through the C interface, beside the Rust's report: the calls of a trace read none. Every word that a
-//! view tells is computed here once more: the places by the layout of the store, the body by leaf/slow.rs.
+//! view tells is computed here once more: the places by the layout of the store, the body, and why a service is unknown, by leaf/slow.rs.
 
 use crate::c_port::{halves, number_of};
 use crate::exports::{Memory, Seen, Told};
-use crate::slow::{self, Number};
+use crate::slow::{self, Cause, Number};
 use crate::state::{MAX_DATA, REPORTS_AT};
 use oracle::ble::central::{AdvReport, Uuid, ad_lists_service};
 
@@ -24,9 +24,15 @@ enum Case {
     By2,
     By4,
     By16,
+    Absent,
+    Listed,
+    Incomplete16,
+    Incomplete32,
+    Incomplete128,
+    Overrun,
 }
 
-pub const CASES: [&str; 11] = [
+pub const CASES: [&str; 17] = [
     "a place behind the last report",
     "no scan response",
     "an empty scan response",
@@ -38,6 +44,12 @@ pub const CASES: [&str; 11] = [
     "a list of 2 bytes each",
     "a list of 4 bytes each",
     "a list of 16 bytes each",
+    "a service that is absent",
+    "one that is listed",
+    "one that is unknown by kind 02",
+    "by kind 04",
+    "by kind 06",
+    "by an overrun",
 ];
 
 /// How often each was met.
@@ -120,6 +132,29 @@ fn body(i: usize, r: &AdvReport, uuid: Uuid, met: &mut Met) -> Result<Option<Spa
     Ok(found.map(|(at, (_, (start, count)))| (at + start, count)))
 }
 
+/// What the report tells of the service: listed by the Rust, else unknown by any cause, else absent (02, Five).
+fn presence(r: &AdvReport, uuid: Uuid, met: &mut Met) -> Told {
+    let answer = r.scan_response.as_deref().unwrap_or_default();
+    let causes = [slow::causes(&r.data), slow::causes(answer)].concat();
+    if ad_lists_service(&r.data, uuid) || ad_lists_service(answer, uuid) {
+        met[Case::Listed as usize] += 1;
+        return [0, 1, 1, 0, 0, 0, 0, 0];
+    }
+    if causes.is_empty() {
+        met[Case::Absent as usize] += 1;
+        return [0, 1, 0, 0, 0, 0, 0, 0];
+    }
+    for cause in causes {
+        met[match cause {
+            Cause::Incomplete16 => Case::Incomplete16,
+            Cause::Incomplete32 => Case::Incomplete32,
+            Cause::Incomplete128 => Case::Incomplete128,
+            Cause::Overrun => Case::Overrun,
+        } as usize] += 1;
+    }
+    [0, 1, 2, 0, 0, 0, 0, 0]
+}
+
 fn same<const N: usize>(what: &str, told: [u64; N], wanted: [u64; N]) -> Result<(), String> {
     if told == wanted { Ok(()) } else { Err(format!("{what} told {told:?} and not {wanted:?}")) }
 }
@@ -132,6 +167,7 @@ fn compared(m: &Memory, i: usize, wanted: Option<&AdvReport>, met: &mut Met) -> 
         same("report", m.report(i), [0; 12])?;
         same("report_data", m.report_data(i), [0; 8])?;
         same("report_response", m.report_response(i), [0; 8])?;
+        same("report_presence", m.report_presence(i, low, high), [0; 8])?;
         return same("report_body", m.report_body(i, low, high), [0; 8]);
     };
     met[match r.scan_response.as_deref() {
@@ -153,6 +189,7 @@ fn compared(m: &Memory, i: usize, wanted: Option<&AdvReport>, met: &mut Met) -> 
     for uuid in asked {
         let (low, high) = halves(&uuid);
         same("report_body", m.report_body(i, low, high), span_words(body(i, r, uuid, met)?))?;
+        same("report_presence", m.report_presence(i, low, high), presence(r, uuid, met))?;
     }
     Ok(())
 }

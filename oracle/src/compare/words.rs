@@ -60,6 +60,7 @@ pub fn call(c: &Call) -> String {
             format!("fragment at {at}, {}, data {}", if *start { "start" } else { "continuation" }, hex(data))
         }
         Call::Result { index } | Call::PassedOn { index } => format!("{name} {index}"),
+        Call::FreshWith { options } => format!("{name} {options}"),
         _ => name.into(),
     }
 }

@@ -370,6 +370,17 @@ pub fn search(r: &mut Random, i: u64, c: &mut Case) {
     };
 }
 
+/// As for the search; a quarter have no response, and some of the others' parts are cut.
+pub fn presence(r: &mut Random, i: u64, c: &mut Case) {
+    search(r, i, c);
+    match r.below(8) {
+        0 | 1 => c.response.clear(),
+        2 => c.data.truncate(r.below(c.data.len() + 1)),
+        3 => c.response.truncate(r.below(c.response.len() + 1)),
+        _ => {}
+    }
+}
+
 // ---- the name
 
 pub fn name_fixed(each: Each) {

@@ -16,6 +16,7 @@ enum Tag {
     ListedBody,
     LocalName,
     ParamsGood,
+    ServicePresence,
 }
 
 /// What stands in a place that a call is to leave alone.
@@ -85,6 +86,10 @@ impl Asks {
 
     pub fn listed_body(&mut self, data: &[u8], response: &[u8], uuid: Number) {
         self.ask(Tag::ListedBody, data, response, uuid);
+    }
+
+    pub fn service_presence(&mut self, data: &[u8], response: &[u8], uuid: Number) {
+        self.ask(Tag::ServicePresence, data, response, uuid);
     }
 
     pub fn local_name(&mut self, data: &[u8]) {
@@ -169,6 +174,10 @@ impl Answers {
             return Err(format!("length {len}, bytes {out:02x?}"));
         }
         Ok((len, out))
+    }
+
+    pub fn service_presence(&mut self) -> u64 {
+        self.word()
     }
 
     pub fn local_name(&mut self) -> Result<Option<(usize, usize)>, String> {

@@ -1,4 +1,4 @@
-//! Where a matched body and a name stand, which the Rust does not tell: computed another way than the port does, with
+//! Where a matched body and a name stand, and why a service that is not listed may be there, which the Rust does not tell: computed another way than the port does, with
 //! the structures taken apart first and every UUID widened to its number.
 pub use super::port::Number;
 
@@ -54,4 +54,29 @@ pub fn listed(data: &[u8], uuid: Number) -> Option<(u8, (usize, usize))> {
 /// The place of the first structure that is a name, if one is there.
 pub fn named(data: &[u8]) -> Option<(usize, usize)> {
     structures(data).into_iter().find(|(kind, _, _)| matches!(kind, 8 | 9)).map(|(_, start, count)| (start, count))
+}
+
+/// Why a service that is not listed may be there all the same (02, Five).
+#[derive(Clone, Copy, Debug, PartialEq)]
+pub enum Cause {
+    Incomplete16,
+    Incomplete32,
+    Incomplete128,
+    Overrun,
+}
+
+/// The causes in data, each once: a list of kind 02, 04 or 06 was read; the reading stopped on an overrun.
+pub fn causes(data: &[u8]) -> Vec<Cause> {
+    let read = structures(data);
+    let mut all: Vec<Cause> = [(2, Cause::Incomplete16), (4, Cause::Incomplete32), (6, Cause::Incomplete128)]
+        .into_iter()
+        .filter(|(kind, _)| read.iter().any(|s| s.0 == *kind))
+        .map(|(_, cause)| cause)
+        .collect();
+    // Behind the last structure stands the end of the data, a zero, or a length that has too little behind it.
+    let end = read.last().map_or(0, |(_, start, count)| start + count);
+    if data.get(end).is_some_and(|len| *len != 0) {
+        all.push(Cause::Overrun);
+    }
+    all
 }

@@ -58,7 +58,7 @@ impl Sequence<'_> {
         (at <= gate::MOST_TIME).then_some(at)
     }
 
-    fn handle_of(&self, characteristic: Uuid) -> u16 {
+    pub fn handle_of(&self, characteristic: Uuid) -> u16 {
         self.central.characteristics.iter().find(|c| c.uuid == characteristic).map_or(1, |c| c.value_handle)
     }
 
@@ -97,7 +97,7 @@ impl Sequence<'_> {
         Some(Call::Fragment { at: self.now, start: true, data })
     }
 
-    fn tell_at(&mut self, at: u64, handle: u16, value: &[u8]) {
+    pub fn tell_at(&mut self, at: u64, handle: u16, value: &[u8]) {
         let data = self.notification(handle, value);
         self.make(Call::Fragment { at, start: true, data });
     }

@@ -1,8 +1,10 @@
 //! What the sequences showed: calls of each kind, steps ended with each status, limits reached.
 
-use super::checks::Aged;
-use crate::trace::{Call, NAMES, answer, gate, kind, tag};
-use oracle::ble::central::{Central, StepResult};
+use super::checks::{Aged, Check};
+use super::closings::Closings;
+use super::searches::Searches;
+use crate::trace::{Call, NAMES, answer, gate, kind, one, tag, value};
+use oracle::ble::central::{Central, Step, StepResult, Uuid};
 
 pub const KINDS: [&str; 13] = [
     "Scan",
@@ -19,7 +21,9 @@ pub const KINDS: [&str; 13] = [
     "Capture",
     "CaptureSecrets",
 ];
-pub const STATUSES: [&str; 7] = ["Ok", "Timeout", "NotConnected", "NotFound", "AttError", "TooLong", "Disconnected"];
+/// By number; the Rust never ends a step for want of a table place.
+pub const STATUSES: [&str; 9] =
+    ["Ok", "Timeout", "NotConnected", "NotFound", "AttError", "TooLong", "Disconnected", "TableFull", "BearerClosed"];
 
 /// The greatest seen of each.
 #[derive(Default, Clone)]
@@ -40,10 +44,37 @@ pub struct Most {
     pub time: u64,
 }
 
+/// What is remembered of a step taken in.
+#[derive(Clone, Copy)]
+pub struct Taken {
+    pub kind: u8,
+    pub age_ms: Option<u32>,
+    /// The characteristic that it looks up.
+    pub characteristic: Option<Uuid>,
+    /// How long its value is.
+    pub len: usize,
+    /// A write with no response.
+    pub command: bool,
+}
+
+impl Taken {
+    pub fn of(step: &Step) -> Taken {
+        let characteristic = match step {
+            Step::Subscribe { characteristic, .. }
+            | Step::Write { characteristic, .. }
+            | Step::Read { characteristic }
+            | Step::WaitNotification { characteristic, .. } => Some(*characteristic),
+            _ => None,
+        };
+        let command = matches!(step, Step::Write { with_response: false, .. });
+        Taken { kind: kind(step), age_ms: one::age(step), characteristic, len: value(step).len(), command }
+    }
+}
+
 pub struct Counts {
     pub calls: [u64; NAMES.len()],
     /// By step kind and status.
-    pub ended: [[u64; 7]; 13],
+    pub ended: [[u64; STATUSES.len()]; 13],
     /// Ended and dropped in the same call.
     pub unseen: u64,
     /// Calls refused, by the refusal's number; and not made, since they would be.
@@ -62,6 +93,8 @@ pub struct Counts {
     /// Waits that passed on notifications of an earlier link alone.
     pub old_waits: u64,
     pub aged: Aged,
+    pub searches: Searches,
+    pub closings: Closings,
     notified_before: u64,
 }
 
@@ -69,7 +102,7 @@ impl Default for Counts {
     fn default() -> Counts {
         Counts {
             calls: [0; NAMES.len()],
-            ended: [[0; 7]; 13],
+            ended: [[0; STATUSES.len()]; 13],
             unseen: 0,
             refused: [0; 9],
             withheld: 0,
@@ -83,6 +116,8 @@ impl Default for Counts {
             updates: 0,
             old_waits: 0,
             aged: Aged::default(),
+            searches: Searches::default(),
+            closings: Closings::default(),
             notified_before: 0,
         }
     }
@@ -107,6 +142,10 @@ pub fn frame(c: &Central, start: bool, data: &[u8]) -> Option<Vec<u8>> {
 }
 
 impl Counts {
+    pub fn sequences(&self) -> u64 {
+        self.calls[usize::from(tag::FRESH)] + self.calls[usize::from(tag::FRESH_WITH)]
+    }
+
     /// Calls, dumps not counted.
     pub fn made(&self) -> u64 {
         let calls = usize::from(tag::BATCH)..=usize::from(tag::RESULT);
@@ -116,6 +155,11 @@ impl Counts {
     pub fn before(&mut self, c: &Central, call: &Call) {
         self.calls[usize::from(call.tag())] += 1;
         self.aged.before(c, call);
+        if let Some(check) = Check::of(c, call) {
+            self.aged.check(c, &check);
+            self.searches.check(&check);
+        }
+        self.closings.before(c, call);
         match call {
             Call::Fragment { start, data, .. } => self.heard(c, *start, data),
             Call::Advertising { pdu, address, random, .. } => {
@@ -152,17 +196,18 @@ impl Counts {
         }
     }
 
-    /// A step of this kind and age has ended.
-    fn end(&mut self, r: &StepResult, (kind, age_ms): (u8, Option<u32>), notified: u64) {
-        let (status, code) = answer::status(r.status);
+    /// A step has ended.
+    fn end(&mut self, r: &StepResult, step: Taken, c: &Central) {
+        let (kind, (status, code)) = (step.kind, answer::status(r.status));
         self.ended[usize::from(kind)][usize::from(status)] += 1;
-        if let Some(age_ms) = age_ms {
+        self.closings.end(c, status, step);
+        if let Some(age_ms) = step.age_ms {
             self.aged.end(age_ms, status);
         }
         if status == 4 {
             self.error_codes[usize::from(code)] = true;
         }
-        if kind == 8 && status == 0 && notified == self.notified_before {
+        if kind == 8 && status == 0 && c.notified == self.notified_before {
             self.old_waits += 1;
         }
         if kind == 7 {
@@ -170,21 +215,22 @@ impl Counts {
         }
     }
 
-    /// `taken` has kind and age of each step, by index; those from `ended` on may have ended in this call.
-    pub fn after(&mut self, c: &Central, call: &Call, sent: &answer::Sent, taken: &[(u8, Option<u32>)], ended: u32) {
+    /// `taken` has each step, by index; those from `ended` on may have ended in this call.
+    pub fn after(&mut self, c: &Central, call: &Call, sent: &answer::Sent, taken: &[Taken], ended: u32) {
         self.aged.after(c, call);
         match call {
-            Call::Fresh => self.notified_before = 0,
+            _ if call.is_fresh() => self.notified_before = 0,
             Call::Connected { .. } => self.notified_before = c.notified,
             _ => {}
         }
         let now = c.next_index - u32::from(c.running.is_some());
         let mut seen = 0;
         for r in c.results.iter().rev().take_while(|r| r.index >= ended) {
-            self.end(r, taken[r.index as usize], c.notified);
+            self.end(r, taken[r.index as usize], c);
             seen += 1;
         }
-        if !matches!(call, Call::Fresh) {
+        self.closings.after(c, call, sent, now > ended);
+        if !call.is_fresh() {
             self.unseen += u64::from(now - ended) - seen;
         }
         let m = &mut self.most;

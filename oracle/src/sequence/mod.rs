@@ -3,15 +3,19 @@
 
 mod aged;
 pub mod checks;
+pub mod closings;
 pub mod counts;
 pub mod head;
+mod needles;
 pub mod rng;
 mod script;
+pub mod searches;
+mod strict;
 mod wire;
 
 use crate::trace::answer::{self, Answer};
-use crate::trace::{Batch, Call, gate, kind, one};
-use counts::Counts;
+use crate::trace::{Batch, Call, gate, one};
+use counts::{Counts, Taken};
 use head::Head;
 use oracle::ble::central::{AdvAction, Central, Step, Uuid};
 use rng::Rng;
@@ -33,6 +37,8 @@ pub struct Plan {
     pub refusals: bool,
     /// Most waits have an age.
     pub aged: bool,
+    /// In most sequences the mode is strict.
+    pub strict: bool,
     /// At least so many calls beside dumps.
     pub calls: usize,
     /// Dumps in a hundred calls.
@@ -49,6 +55,10 @@ enum Scene {
     Notify,
     /// Notifications before and under aged waits, over links that come and go.
     Aged,
+    /// Waits for bytes that come in pieces, or almost.
+    Needles,
+    /// Requests that are not answered in time, and what comes behind.
+    Closed,
     Discover,
     /// Many advertisers.
     Scan,
@@ -98,7 +108,7 @@ pub trait Witness {
     fn saw(&mut self, call: &Call, answer: &Answer, left: &Central);
 }
 
-/// A sequence and the oracle's answers, one line for each call. The first is `Fresh`.
+/// A sequence and the oracle's answers, one line for each call. The first makes the state fresh.
 pub struct Recorded {
     pub calls: Vec<Call>,
     pub lines: Vec<Vec<u8>>,
@@ -147,11 +157,13 @@ pub struct Sequence<'a> {
     connects: bool,
     /// The age of the wait that the batch to come begins with.
     coming: Option<u32>,
+    /// How many needles were looked for, and a beginning of its own for each sequence: each length has its turn.
+    needle: usize,
     boundary: usize,
     opcode: u8,
     signal: u8,
-    /// Kind and age of each step taken in, by index.
-    taken: Vec<(u8, Option<u32>)>,
+    /// Each step taken in, by index.
+    taken: Vec<Taken>,
     made: Vec<Call>,
 }
 
@@ -178,7 +190,11 @@ fn profile(rng: &mut Rng, plan: Plan) -> Profile {
             if groups.radio { Scene::Crowd } else { Scene::Any },
         ],
     };
-    let scene = if plan.aged && groups.link && rng.chance(60) { Scene::Aged } else { *rng.pick(scenes) };
+    let scene = match groups.link {
+        true if plan.aged && rng.chance(60) => Scene::Aged,
+        true if plan.strict && rng.chance(60) => Scene::Closed,
+        _ => *rng.pick(scenes),
+    };
     if matches!(scene, Scene::Crowd | Scene::Survey) {
         let (clock, cut) = (Clock::Steady, Cut::Whole);
         return Profile { scene, clock, cut, noise: 1, wrong: 0, silent: 0, late: 0, drop: 0 };
@@ -188,6 +204,13 @@ fn profile(rng: &mut Rng, plan: Plan) -> Profile {
         let cut = *rng.pick(&[Cut::Whole, Cut::Whole, Cut::Mixed]);
         let (noise, wrong) = (*rng.pick(&[2, 5, 10]), *rng.pick(&[0, 0, 0, 5]));
         return Profile { scene, clock, cut, noise, wrong, silent: 1, late: 1, drop: *rng.pick(&[0, 1, 4]) };
+    }
+    if scene == Scene::Closed {
+        let clock = *rng.pick(&[Clock::Steady, Clock::Steady, Clock::Jumps, Clock::Back]);
+        let cut = *rng.pick(&[Cut::Whole, Cut::Whole, Cut::Mixed]);
+        let (noise, wrong) = (*rng.pick(&[2, 5, 10]), *rng.pick(&[0, 0, 0, 5]));
+        let (late, drop) = (*rng.pick(&[10, 20, 40]), *rng.pick(&[0, 0, 1]));
+        return Profile { scene, clock, cut, noise, wrong, silent: 5, late, drop };
     }
     Profile {
         scene,
@@ -204,8 +227,15 @@ fn profile(rng: &mut Rng, plan: Plan) -> Profile {
 impl<'a> Sequence<'a> {
     fn new(plan: Plan, number: u64, counts: &'a mut Counts, witness: &'a mut dyn Witness) -> Sequence<'a> {
         let (mut rng, groups) = (Rng::new(plan.seed, number), plan.groups);
-        let profile = profile(&mut rng, plan);
-        let head = Head::new(&mut rng, profile.scene == Scene::Survey, (number * 3) as u8);
+        let profile = if needles::is_about_them(plan, number) {
+            needles::profile(*rng.pick(&[Cut::Whole, Cut::Mixed]))
+        } else {
+            profile(&mut rng, plan)
+        };
+        let mut head = Head::new(&mut rng, profile.scene == Scene::Survey, (number * 3) as u8);
+        while profile.scene == Scene::Needles && head.characteristics().is_empty() {
+            head = Head::new(&mut rng, false, (number * 3) as u8);
+        }
         let crowd = match profile.scene {
             Scene::Crowd => 160,
             Scene::Scan => rng.size(40, 120),
@@ -239,6 +269,7 @@ impl<'a> Sequence<'a> {
             late: Vec::new(),
             connects: false,
             coming: None,
+            needle: number as usize,
             boundary,
             opcode,
             signal,
@@ -269,7 +300,7 @@ impl<'a> Sequence<'a> {
         let (answer, sent) = answer::play(&mut self.central, &call);
         if let Call::Batch(b) = &call {
             let more = self.central.next_index as usize + self.central.queue.len() - taken;
-            self.taken.extend(b.steps[..more].iter().map(|s| (kind(s), one::age(s))));
+            self.taken.extend(b.steps[..more].iter().map(Taken::of));
         }
         self.counts.after(&self.central, &call, &sent, &self.taken, ended);
         self.witness.saw(&call, &answer, &self.central);
@@ -286,7 +317,8 @@ impl<'a> Sequence<'a> {
     }
 
     fn run(&mut self) {
-        self.make(Call::Fresh);
+        let first = self.first();
+        self.make(first);
         let calls = self.plan.calls + self.rng.size(0, self.plan.calls / 10);
         let mut made = 0;
         while made < calls {
@@ -301,11 +333,14 @@ impl<'a> Sequence<'a> {
         self.dump();
     }
 
-    /// A dump's line tells nothing of links: those have a record of their own.
+    /// A dump's line tells nothing of links and of a closed bearer: those have records of their own.
     fn dump(&mut self) {
         self.make(Call::Dump);
         if self.plan.aged {
             self.make(Call::Links);
+        }
+        if self.plan.strict {
+            self.make(Call::Mode);
         }
     }
 
@@ -413,7 +448,7 @@ impl<'a> Sequence<'a> {
 
     /// The call that brings the running step on.
     fn helpful(&mut self) -> Call {
-        if let Some(call) = self.about_a_wait() {
+        if let Some(call) = self.about_a_wait().or_else(|| self.about_a_needle()).or_else(|| self.about_a_closing()) {
             return call;
         }
         let Some(step) = self.central.running.as_ref().map(|r| r.step.clone()) else {
@@ -463,14 +498,17 @@ impl<'a> Sequence<'a> {
                 self.post(frame);
                 self.send_or(Sequence::reader)
             }
-            17 if link && !self.late.is_empty() => {
-                let at = self.rng.below(self.late.len() as u64) as usize;
-                let frame = self.late.swap_remove(at);
-                self.post(frame);
-                self.send_or(Sequence::reader)
-            }
+            17 if link && !self.late.is_empty() => self.comes_late(),
             _ => self.reader(),
         }
+    }
+
+    /// A frame that should have come earlier.
+    fn comes_late(&mut self) -> Call {
+        let at = self.rng.below(self.late.len() as u64) as usize;
+        let frame = self.late.swap_remove(at);
+        self.post(frame);
+        self.send_or(Sequence::reader)
     }
 
     fn send_or(&mut self, other: fn(&mut Self) -> Call) -> Call {

@@ -152,7 +152,7 @@ impl Sequence<'_> {
         kinds.into_iter().map(|k| self.step(k)).collect()
     }
 
-    fn some(&mut self, kinds: &[u64]) -> Vec<Step> {
+    pub fn some(&mut self, kinds: &[u64]) -> Vec<Step> {
         let n = self.rng.size(1, 5);
         (0..n)
             .map(|_| {
@@ -228,7 +228,8 @@ impl Sequence<'_> {
             Scene::Scan => self.some(&[0, 0, 0, 1, 9, 10]),
             Scene::Notify if linked_known => self.some(&[5, 8, 8, 8, 8, 9, 1, 7]),
             Scene::Aged if linked_known => self.some(&[8, 8, 8, 8, 8, 8, 8, 9, 7, 10]),
-            Scene::Aged if linked => vec![self.step(4)],
+            Scene::Aged | Scene::Needles if linked => vec![self.step(4)],
+            Scene::Closed if linked => self.closing_script(),
             Scene::Discover if linked => self.some(&[3, 4, 4, 4, 4, 4, 2]),
             Scene::Peer if linked => self.some(&[9, 9, 6, 7, 2, 8]),
             _ => self.journey(),

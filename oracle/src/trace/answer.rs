@@ -1,6 +1,6 @@
 //! Plays a call on the oracle and says what it answered, also in the line of docs/TRACE.md.
 
-use super::{Batch, Call, NAMES, gate, kind, one, value};
+use super::{Batch, Call, NAMES, four, gate, kind, one, value};
 use oracle::ble::central::{AdvAction, Central, LlRequest, Running, Step, StepResult, StepStatus, Target, Uuid};
 
 /// What a call sent.
@@ -38,7 +38,7 @@ pub enum Answer {
     Handle(Option<u16>),
     Result(Option<StepResult>),
     PassedOn(Option<Passed>),
-    /// A dump, or `links`: the answer is the state.
+    /// A dump, `links` or `mode`: the answer is the state.
     State,
     /// What the oracle never answers.
     Other(String),
@@ -246,6 +246,11 @@ impl Line {
         self
     }
 
+    /// Whether the mode is strict, and whether the bearer is closed.
+    fn mode(&mut self, c: &Central) -> &mut Line {
+        self.flag(four::is_strict(c)).flag(four::is_closed(c))
+    }
+
     fn passed(&mut self, p: &Passed) -> &mut Line {
         self.number(p.at_us).number(p.link).number(u64::from(p.handle)).flag(p.indication).bytes(&p.value)
     }
@@ -261,6 +266,8 @@ pub fn status(s: StepStatus) -> (u8, u8) {
         StepStatus::AttError(code) => (4, code),
         StepStatus::TooLong => (5, 0),
         StepStatus::Disconnected => (6, 0),
+        #[cfg(extended)]
+        StepStatus::BearerClosed => (8, 0),
     }
 }
 
@@ -288,6 +295,7 @@ pub fn play(c: &mut Central, call: &Call) -> (Answer, Sent) {
     let mut sent = Sent::default();
     match call {
         Call::Fresh => *c = Central::default(),
+        Call::FreshWith { options } => *c = four::fresh(*options),
         Call::Batch(Batch { now, steps, .. }) => c.push_steps(steps.clone(), *now),
         Call::Timer { now } => c.on_timer(*now),
         Call::Connected { at, handle } => c.on_connected(*handle, *at),
@@ -302,7 +310,8 @@ pub fn play(c: &mut Central, call: &Call) -> (Answer, Sent) {
         | Call::Result { .. }
         | Call::PassedOn { .. }
         | Call::Dump
-        | Call::Links => {}
+        | Call::Links
+        | Call::Mode => {}
     }
     sent.frames = c.take_frames();
     sent.requests = c.take_ll_requests();
@@ -336,8 +345,8 @@ fn passed(c: &Central, index: u32) -> Option<Passed> {
 /// Of a call that sends nothing over the link.
 fn quiet(c: &Central, call: &Call, sent: &Sent) -> Answer {
     match call {
-        Call::Fresh => Answer::Fresh,
-        Call::Dump | Call::Links => Answer::State,
+        Call::Fresh | Call::FreshWith { .. } => Answer::Fresh,
+        Call::Dump | Call::Links | Call::Mode => Answer::State,
         Call::TimerUs => Answer::Time(c.timer_us()),
         Call::ConnectedHandle => Answer::Handle(c.connected_handle()),
         Call::Result { index } => {
@@ -348,13 +357,14 @@ fn quiet(c: &Central, call: &Call, sent: &Sent) -> Answer {
     }
 }
 
-/// The call's line, without its end; that of a dump or of `links` is made of the state that was left.
+/// The call's line, without its end; that of a dump, of `links` or of `mode` is made of the state that was left.
 pub fn line(call: &Call, answer: &Answer, left: &Central) -> Vec<u8> {
     let mut line = Line::default();
     line.word(NAMES[usize::from(call.tag())]);
     match answer {
         Answer::Fresh => &mut line,
         Answer::State if *call == Call::Links => line.links(left),
+        Answer::State if *call == Call::Mode => line.mode(left),
         Answer::State => line.dump(left),
         Answer::Other(what) => line.word(what),
         Answer::Refused(refusal) => line.number(u64::from(*refusal)),

@@ -1,6 +1,7 @@
 //! Traces of calls: the records of docs/TRACE.md, to bytes and back.
 
 pub mod answer;
+pub mod four;
 pub mod gate;
 pub mod one;
 
@@ -23,13 +24,15 @@ pub mod tag {
     pub const DUMP: u8 = 11;
     pub const LINKS: u8 = 12;
     pub const PASSED_ON: u8 = 13;
+    pub const FRESH_WITH: u8 = 14;
+    pub const MODE: u8 = 15;
 }
 
-/// How many records there are: the last two are of request One.
-pub const TAGS: usize = if one::IS_THERE { 14 } else { 12 };
+/// How many records there are: the last four are of requests One and Four.
+pub const TAGS: usize = if one::IS_THERE { NAMES.len() } else { 12 };
 
 /// The word that a record's answer begins with, by tag.
-pub const NAMES: [&str; 14] = [
+pub const NAMES: [&str; 16] = [
     "fresh",
     "batch",
     "timer",
@@ -44,6 +47,8 @@ pub const NAMES: [&str; 14] = [
     "dump",
     "links",
     "passed_on",
+    "fresh_with",
+    "mode",
 ];
 
 pub const HEADER: usize = 5;
@@ -83,6 +88,8 @@ pub enum Call {
     Dump,
     Links,
     PassedOn { index: u32 },
+    FreshWith { options: u64 },
+    Mode,
 }
 
 /// Why a trace can't be read further.
@@ -203,6 +210,11 @@ fn put_step(out: &mut Vec<u8>, step: &Step, (place, len): (u32, u32)) {
 }
 
 impl Call {
+    /// It begins a sequence.
+    pub fn is_fresh(&self) -> bool {
+        matches!(self, Call::Fresh | Call::FreshWith { .. })
+    }
+
     pub fn tag(&self) -> u8 {
         match self {
             Call::Fresh => tag::FRESH,
@@ -219,6 +231,8 @@ impl Call {
             Call::Dump => tag::DUMP,
             Call::Links => tag::LINKS,
             Call::PassedOn { .. } => tag::PASSED_ON,
+            Call::FreshWith { .. } => tag::FRESH_WITH,
+            Call::Mode => tag::MODE,
         }
     }
 
@@ -226,7 +240,8 @@ impl Call {
         let at = out.len();
         out.extend_from_slice(&[self.tag(), 0, 0, 0, 0]);
         match self {
-            Call::Fresh | Call::TimerUs | Call::ConnectedHandle | Call::Dump | Call::Links => {}
+            Call::Fresh | Call::TimerUs | Call::ConnectedHandle | Call::Dump | Call::Links | Call::Mode => {}
+            Call::FreshWith { options } => out.extend_from_slice(&options.to_le_bytes()),
             Call::Batch(b) => {
                 out.extend_from_slice(&b.now.to_le_bytes());
                 out.extend_from_slice(&b.count.to_le_bytes());
@@ -267,7 +282,7 @@ impl Call {
 }
 
 /// The least and the greatest body of each record, by tag.
-const BODY: [(usize, usize); 14] = [
+const BODY: [(usize, usize); 16] = [
     (0, 0),
     (12, 12 + MOST_STEPS * STEP + MOST_VALUES),
     (8, 8),
@@ -282,6 +297,8 @@ const BODY: [(usize, usize); 14] = [
     (0, 0),
     (0, 0),
     (4, 4),
+    (8, 8),
+    (0, 0),
 ];
 
 fn number(b: &[u8]) -> u64 {
@@ -381,6 +398,8 @@ fn get(tag: u8, b: &[u8]) -> Result<Call, Bad> {
         tag::DUMP => Call::Dump,
         tag::LINKS => Call::Links,
         tag::PASSED_ON => Call::PassedOn { index: number(b) as u32 },
+        tag::FRESH_WITH => Call::FreshWith { options: number(b) },
+        tag::MODE => Call::Mode,
         _ => return Err(Bad::Tag),
     })
 }

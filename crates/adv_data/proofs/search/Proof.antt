@@ -1,178 +1,40 @@
-use Prim.Native.Nat.{_+_, _-_, _≤_, _<_}
-use mathlib.Core.Path.{_≡_, refl, sym, _∙_}
-use native.Mathlib.Omega.{arith}
-use borrow.Author.Needs.{needs}
-use lib.ListN.{length, getD}
+-- The place of the three-way answer is the definition's.
+use mathlib.Core.Path.{sym, ap, _∙_}
 use denote.Ref.{now}
 use Rattle.uuid.specs.Value.{num}
-use Rattle.adv_data.specs.Ad.{listedPlace, widthOf}
-use Rattle.adv_data.specs.declared.Place.the-variants.{Nothing}
-use Rattle.adv_data.proofs.Lists.{is-width}
-use Rattle.adv_data.proofs.Searches.{from, rest, stop-zero, stop-past, list-none, list-done, list-later, list-here}
+use Rattle.adv_data.proofs.Searches.{placeSought, listed-where-found}
+use borrow.Author.Needs.{needs}
 use Rattle.adv_data.proofs.search.Statement.{statement}
 use Rattle.adv_data.proofs.search.Tie as tie
 
-abbrev Inv-loop : tie.InvT-loop
-Inv-loop «data» uuid place₀ at len body next width i₀ place i =
-    (i ≤ next)
-    × ((place ≡ Nothing) × (rest (num uuid) «data» width i next ≡ rest (num uuid) «data» width (at + 2) next))
+seek-requires : tie.Need-seek-requires
+seek-requires c κs = search needs
 
-abbrev μ-loop : tie.MeasureT-loop
-μ-loop «data» uuid place₀ at len body next width i₀ place i = next - i
+enum-known-start : tie.Need-enum-known-start
+enum-known-start c = search needs
 
-abbrev Inv-structures : tie.InvT-structures
-Inv-structures «data» uuid place₀ at₀ place at =
-    (at ≤ length «data») × ((place ≡ Nothing) × (from (num uuid) at «data» ≡ listedPlace (num uuid) «data»))
+enum-told : tie.Need-enum-told
+enum-told c = search needs
 
-abbrev μ-structures : tie.MeasureT-structures
-μ-structures «data» uuid place₀ at₀ place at = length «data» - at
+enum-told-2 : tie.Need-enum-told-2
+enum-told-2 c = search needs
 
-structures-holds : tie.Need-structures-holds Inv-loop μ-loop Inv-structures μ-structures
-structures-holds c = (omega arith, (refl, refl))
-
-shared-slice-read-len : tie.Need-shared-slice-read-len Inv-loop μ-loop Inv-structures μ-structures
-shared-slice-read-len c = omega arith
-
-cast-len : tie.Need-cast-len Inv-loop μ-loop Inv-structures μ-structures
-cast-len c = omega (arith, c .shared-slice-known2 .given (c .before .before .structures .at))
-
-sub-if2 : tie.Need-sub-if2 Inv-loop μ-loop Inv-structures μ-structures
-sub-if2 c = omega arith
-
-add-body : tie.Need-add-body Inv-loop μ-loop Inv-structures μ-structures
-add-body c = omega arith
-
-add-next : tie.Need-add-next Inv-loop μ-loop Inv-structures μ-structures
-add-next c = omega arith
-
-add-next-2 : tie.Need-add-next-2 Inv-loop μ-loop Inv-structures μ-structures
-add-next-2 c = omega arith
-
-add-width-of : tie.Need-add-width-of Inv-loop μ-loop Inv-structures μ-structures
-add-width-of c = omega arith
-
-shared-slice-read-width-of :
-    tie.Need-shared-slice-read-width-of Inv-loop μ-loop Inv-structures μ-structures
-shared-slice-read-width-of c = omega arith
-
-width-of-requires : tie.Need-width-of-requires Inv-loop μ-loop Inv-structures μ-structures
-width-of-requires c κs = search needs
-
-loop-holds : tie.Need-loop-holds Inv-loop μ-loop Inv-structures μ-structures
-loop-holds c = (omega arith, (c .before .before .before .before .before .before .before .structures .inv .1 .0, refl))
-
-sub-loop : tie.Need-sub-loop Inv-loop μ-loop Inv-structures μ-structures
-sub-loop c = omega arith
-
-equal-at-requires : tie.Need-equal-at-requires Inv-loop μ-loop Inv-structures μ-structures
-equal-at-requires c κs =
-    let k = getD (now (c .before .before .before .before .before .before .before .before .before .before .before .args .«data»)) (c .before .before .before .before .before .before .before .before .before .structures .at + 1) 0 in
-    let h : 0 < widthOf k = omega arith in
-    (omega arith, rw (c .before .before .before .width-of .ensures) (is-width k h))
-
-sub-t19 : tie.Need-sub-t19 Inv-loop μ-loop Inv-structures μ-structures
-sub-t19 c = omega arith
-
-add-i : tie.Need-add-i Inv-loop μ-loop Inv-structures μ-structures
-add-i c = omega arith
-
-loop-less : tie.Need-loop-less Inv-loop μ-loop Inv-structures μ-structures
-loop-less c = omega arith
-
-loop-again : tie.Need-loop-again Inv-loop μ-loop Inv-structures μ-structures
-loop-again c =
-    let a = c .before .before .before .before .before .before .before .before .before .before .before .before .before .args in
-    let s = now (a .«data») in
-    let t = c .before .before .before .before .before .before .before .before .before .before .before .structures in
-    let w = c .before .before .before .before .before .width-of in
-    let l = c .before .before .before .loop in
-    let q = c .before .equal-at in
-    let later = list-later (num (a .uuid)) (t .at) s (getD s (t .at) 0) refl (c .before .before .before .before .before .before .before .before .if1 .left) (c .before .before .before .before .before .before .before .if2 .left) (w .result) (w .ensures) (l .i) (q .result) (c .before .before .before .before .if3 .taken) (l .inv .0) (c .before .before .loop-test .taken) (q .ensures) (c .if4 .left) in
-    (later .0, (l .inv .1 .0, sym (later .1) ∙ l .inv .1 .1))
-
-structures-less : tie.Need-structures-less Inv-loop μ-loop Inv-structures μ-structures
-structures-less c = omega arith
-
-structures-again : tie.Need-structures-again Inv-loop μ-loop Inv-structures μ-structures
-structures-again c =
-    let a = c .before .before .before .before .before .before .before .before .before .before .before .args in
-    let s = now (a .«data») in
-    let t = c .before .before .before .before .before .before .before .before .before .structures in
-    let w = c .before .before .before .width-of in
-    let l = c .before .loop in
-    let done = list-done (num (a .uuid)) (t .at) s (getD s (t .at) 0) refl (c .before .before .before .before .before .before .if1 .left) (c .before .before .before .before .before .if2 .left) (w .result) (w .ensures) (l .i) (c .loop-test .left) (l .inv .1 .1) in
-    (done .0, (l .inv .1 .0, sym (done .1) ∙ t .inv .1 .1))
-
-structures-less-2 : tie.Need-structures-less-2 Inv-loop μ-loop Inv-structures μ-structures
-structures-less-2 c = omega arith
-
-structures-again-2 : tie.Need-structures-again-2 Inv-loop μ-loop Inv-structures μ-structures
-structures-again-2 c =
-    let a = c .before .before .before .before .before .before .before .before .before .args in
-    let s = now (a .«data») in
-    let t = c .before .before .before .before .before .before .before .structures in
-    let w = c .before .width-of in
-    let none = list-none (num (a .uuid)) (t .at) s (getD s (t .at) 0) refl (c .before .before .before .before .if1 .left) (c .before .before .before .if2 .left) (w .result) (w .ensures) (c .if3 .left) in
-    (none .0, (t .inv .1 .0, sym (none .1) ∙ t .inv .1 .1))
-
-returns : tie.Need-returns Inv-loop μ-loop Inv-structures μ-structures
+returns : tie.Need-returns
 returns c =
-    let a = c .before .before .before .args in
-    let t = c .before .structures in
-    t .inv .1 .0 ∙ sym (stop-past (num (a .uuid)) (t .at) (now (a .«data»)) (omega arith)) ∙ t .inv .1 .1
-
-returns-2 : tie.Need-returns-2 Inv-loop μ-loop Inv-structures μ-structures
-returns-2 c =
     let a = c .before .before .before .before .before .args in
-    let t = c .before .before .before .structures in
-    t .inv .1 .0 ∙ sym (stop-zero (num (a .uuid)) (t .at) (now (a .«data»)) (c .if1 .taken)) ∙ t .inv .1 .1
+    ap placeSought (sym (c .before .start .given .1) ∙ c .before .before .before .seek .ensures) ∙ listed-where-found (num (a .uuid)) (now (a .«data»))
 
-returns-3 : tie.Need-returns-3 Inv-loop μ-loop Inv-structures μ-structures
+returns-2 : tie.Need-returns-2
+returns-2 c =
+    let a = c .before .before .before .before .args in
+    ap placeSought (sym (c .enum-told .given .1) ∙ c .before .before .seek .ensures) ∙ listed-where-found (num (a .uuid)) (now (a .«data»))
+
+returns-3 : tie.Need-returns-3
 returns-3 c =
-    let a = c .before .before .before .before .before .before .args in
-    let t = c .before .before .before .before .structures in
-    t .inv .1 .0 ∙ sym (stop-past (num (a .uuid)) (t .at) (now (a .«data»)) (omega arith)) ∙ t .inv .1 .1
-
-returns-4 : tie.Need-returns-4 Inv-loop μ-loop Inv-structures μ-structures
-returns-4 c =
-    let a = c .before .before .before .before .before .before .before .before .before .before .before .before .before .args in
-    let s = now (a .«data») in
-    let t = c .before .before .before .before .before .before .before .before .before .before .before .structures in
-    let w = c .before .before .before .before .before .width-of in
-    let l = c .before .before .before .loop in
-    let q = c .before .equal-at in
-    sym (list-here (num (a .uuid)) (t .at) s (getD s (t .at) 0) refl (c .before .before .before .before .before .before .before .before .if1 .left) (c .before .before .before .before .before .before .before .if2 .left) (w .result) (w .ensures) (l .i) (q .result) (c .before .before .before .before .if3 .taken) (l .inv .0) (c .before .before .loop-test .taken) (q .ensures) (c .if4 .taken) (l .inv .1 .1)) ∙ t .inv .1 .1
+    let a = c .before .before .before .before .args in
+    ap placeSought (sym (c .enum-told2 .given .1) ∙ c .before .before .seek .ensures) ∙ listed-where-found (num (a .uuid)) (now (a .«data»))
 
 pub search-spec : {M : Type 1} → statement M
 search-spec =
     tie.close
-    (tie.spec
-    Inv-loop
-    μ-loop
-    Inv-structures
-    μ-structures
-    structures-holds
-    shared-slice-read-len
-    cast-len
-    sub-if2
-    add-body
-    add-next
-    add-next-2
-    add-width-of
-    shared-slice-read-width-of
-    width-of-requires
-    loop-holds
-    sub-loop
-    equal-at-requires
-    sub-t19
-    add-i
-    loop-less
-    loop-again
-    structures-less
-    structures-again
-    structures-less-2
-    structures-again-2
-    returns
-    returns-2
-    returns-3
-    returns-4)
+    (tie.spec seek-requires enum-known-start enum-told enum-told-2 returns returns-2 returns-3)

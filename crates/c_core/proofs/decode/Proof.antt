@@ -21,14 +21,21 @@ element-copy-out-reports c = search needs
 element-copy-out-key-count : tie.Need-element-copy-out-key-count
 element-copy-out-key-count c = search needs
 
+element-copy-out-options-of : tie.Need-element-copy-out-options-of
+element-copy-out-options-of c = search needs
+
+options-of-requires : tie.Need-options-of-requires
+options-of-requires c κs = search needs
+
 returns : tie.Need-returns
 unfolding coreIn
 returns c =
     rw (
-      c .before .before .before .before .before .running-in .ensures,
-      c .before .before .before .before .bearer-in .ensures,
-      c .before .before .before .counters-in .ensures,
-      c .before .before .counts-in .ensures,
+      c .before .before .before .before .before .before .before .running-in .ensures,
+      c .before .before .before .before .before .before .bearer-in .ensures,
+      c .before .before .before .before .before .counters-in .ensures,
+      c .before .before .before .before .counts-in .ensures,
+      c .options-of .ensures,
     )
 
 pub decode-spec : {M : Type 1} → statement M
@@ -41,4 +48,6 @@ decode-spec =
     counts-in-requires
     element-copy-out-reports
     element-copy-out-key-count
+    element-copy-out-options-of
+    options-of-requires
     returns)

@@ -67,12 +67,19 @@ bit-requires-5 c κs = search needs
 long-requires-3 : tie.Need-long-requires-3
 long-requires-3 c κs = search needs
 
+bit-requires-6 : tie.Need-bit-requires-6
+bit-requires-6 c κs = search needs
+
+bit-requires-7 : tie.Need-bit-requires-7
+bit-requires-7 c κs = search needs
+
 returns : tie.Need-returns
 returns c =
-    let t = c .before .before .before .before .before .before .before .before .before .before in
+    let d = c .before .before in
+    let t = d .before .before .before .before .before .before .before .before .before .before in
     let u = t .before .before .before .before .before .before .before .before .before .before in
-    core-law _ (u .before .before .before .before .before .before .before .before .before .before .args .c) _
-    (u .before .before .before .before .before .before .before .flat-of .ensures .0)
+    core-law _ (u .before .before .before .before .before .before .before .before .before .before .before .args .c) _
+    (u .before .before .before .before .before .before .before .before .flat-of .ensures .0)
     refl
     (u .long .ensures)
     (t .before .before .before .before .before .before .before .before .before .half .ensures)
@@ -87,20 +94,22 @@ returns c =
     refl
     refl
     (t .byte4 .ensures)
-    (c .before .before .before .before .before .before .before .before .before .half3 .ensures)
-    (c .before .before .before .before .before .before .before .before .half4 .ensures)
-    (c .before .before .before .before .before .before .before .half5 .ensures)
+    (d .before .before .before .before .before .before .before .before .before .half3 .ensures)
+    (d .before .before .before .before .before .before .before .before .half4 .ensures)
+    (d .before .before .before .before .before .before .before .half5 .ensures)
     (rw (
-      c .before .before .before .before .before .before .half6 .ensures,
-      c .before .before .before .before .before .half7 .ensures,
-      c .before .before .before .before .byte5 .ensures,
-      c .before .before .before .bit4 .ensures,
-      c .before .before .bit5 .ensures,
+      d .before .before .before .before .before .before .half6 .ensures,
+      d .before .before .before .before .before .half7 .ensures,
+      d .before .before .before .before .byte5 .ensures,
+      d .before .before .before .bit4 .ensures,
+      d .before .before .bit5 .ensures,
+      c .before .before .bit6 .ensures,
     ))
-    (rw (c .before .long3 .ensures))
+    (rw (d .before .long3 .ensures))
     refl
     refl
     refl
+    (c .before .bit7 .ensures)
 
 pub encode-spec : {M : Type 1} → statement M
 encode-spec =
@@ -127,4 +136,6 @@ encode-spec =
     bit-requires-4
     bit-requires-5
     long-requires-3
+    bit-requires-6
+    bit-requires-7
     returns)

@@ -36,6 +36,9 @@ enum-told-6 c = search needs
 enum-told-7 : tie.Need-enum-told-7
 enum-told-7 c = search needs
 
+enum-told-8 : tie.Need-enum-told-8
+enum-told-8 c = search needs
+
 returns : tie.Need-returns
 unfolding statusOf
 returns c = (sym (c .enum-told .given .1), omega arith)
@@ -67,6 +70,10 @@ returns-8 : tie.Need-returns-8
 unfolding statusOf
 returns-8 c = (sym (c .enum-told7 .given .1), omega arith)
 
+returns-9 : tie.Need-returns-9
+unfolding statusOf
+returns-9 c = (sym (c .enum-told8 .given .1), omega arith)
+
 pub status-bits-spec : {M : Type 1} → statement M
 status-bits-spec =
     tie.close
@@ -80,6 +87,7 @@ status-bits-spec =
     enum-told-5
     enum-told-6
     enum-told-7
+    enum-told-8
     returns
     returns-2
     returns-3
@@ -87,4 +95,5 @@ status-bits-spec =
     returns-5
     returns-6
     returns-7
-    returns-8)
+    returns-8
+    returns-9)

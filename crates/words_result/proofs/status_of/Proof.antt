@@ -35,19 +35,24 @@ returns-7 c = rw (c .match .keys7)
 
 returns-8 : tie.Need-returns-8
 unfolding statusOf
-returns-8 c =
+returns-8 c = rw (c .match .keys8)
+
+returns-9 : tie.Need-returns-9
+unfolding statusOf
+returns-9 c =
     let rest = c .match .rest in
     rw (
-      ne-eqb _ 0 (rest .0 .0 .0 .0 .0 .0 .1),
-      ne-eqb _ 1 (rest .0 .0 .0 .0 .0 .1),
-      ne-eqb _ 2 (rest .0 .0 .0 .0 .1),
-      ne-eqb _ 3 (rest .0 .0 .0 .1),
-      ne-eqb _ 4 (rest .0 .0 .1),
-      ne-eqb _ 5 (rest .0 .1),
-      ne-eqb _ 6 (rest .1),
+      ne-eqb _ 0 (rest .0 .0 .0 .0 .0 .0 .0 .1),
+      ne-eqb _ 1 (rest .0 .0 .0 .0 .0 .0 .1),
+      ne-eqb _ 2 (rest .0 .0 .0 .0 .0 .1),
+      ne-eqb _ 3 (rest .0 .0 .0 .0 .1),
+      ne-eqb _ 4 (rest .0 .0 .0 .1),
+      ne-eqb _ 5 (rest .0 .0 .1),
+      ne-eqb _ 6 (rest .0 .1),
+      ne-eqb _ 8 (rest .1),
     )
 
 pub status-of-spec : {M : Type 1} → statement M
 status-of-spec =
     tie.close
-    (tie.spec returns returns-2 returns-3 returns-4 returns-5 returns-6 returns-7 returns-8)
+    (tie.spec returns returns-2 returns-3 returns-4 returns-5 returns-6 returns-7 returns-8 returns-9)

@@ -5,16 +5,12 @@ use mathlib.Core.List.{List, [], _∷_}
 use lib.ListN.{getD, replicate}
 use Rattle.gatt_services.specs.Service.{zero-service}
 use Rattle.gatt_characteristics.specs.Characteristic.{zero-characteristic}
-use Rattle.state.specs.Fresh.{noQueued, noResult, noNotification, freshCentral}
+use Rattle.state.specs.Fresh.{noQueued, noResult, noNotification}
 use Rattle.state.specs.declared.Heard.{Heard}
 use Rattle.words.specs.Table.{tableFrom, table}
 use Rattle.words.specs.Words.{stepOf, lenOf, flatOf, queuedOf, statusOf, resultOf, serviceOf, cccdOf, characteristicOf, notificationOf, channelOf, pduOf, dataLenOf, responseOf, timeOf}
-use Rattle.words.specs.Tables.{word, Tables, tables, stepsIn, resultsIn, servicesIn, characteristicsIn, notificationsIn, whoIn, heardIn, keysIn}
+use Rattle.words.specs.Tables.{tablesSize, word, Tables, tables, stepsIn, resultsIn, servicesIn, characteristicsIn, notificationsIn, whoIn, heardIn, keysIn}
 use Rattle.words.proofs.TableLaws.{table-same}
-use mathlib.Core.Bool.{false}
-use Rattle.state.specs.Fresh.{noRunning}
-use Rattle.state_core.specs.declared.Core.{Core}
-use Rattle.state_core.specs.Reading.{centralOf, central}
 
 zeros : (n k : ℕ) → _≡_ {A = ℕ} (getD (replicate n 0) k 0) 0
 zeros zero k = refl
@@ -30,8 +26,8 @@ module _ {A : Type 0} where
   all-same : (n : ℕ) (f : ℕ → A) (x : A) → ((k : ℕ) → f k ≡ x) → table n f ≡ replicate n x
   all-same n f x h = table-same n f (λ j. x) (λ k b. h k) ∙ constant 0 n x
 
-abbrev no-words : List ℕ
-no-words = replicate 1152 0
+abbrev pub no-words : List ℕ
+no-words = replicate tablesSize 0
 
 z : (k : ℕ) → _≡_ {A = ℕ} (getD no-words k 0) 0
 z k = zeros 1152 k
@@ -103,7 +99,7 @@ fresh-keys : keysIn no-words ≡ replicate 128 0
 unfolding keysIn
 fresh-keys = all-same 128 (λ i. word no-words 928 i) 0 (λ k. z (928 + k))
 
-abbrev fresh-tables : Tables
+abbrev pub fresh-tables : Tables
 fresh-tables =
     record {
       steps = replicate 64 noQueued;
@@ -118,18 +114,3 @@ fresh-tables =
 
 pub fresh-words : tables no-words ≡ fresh-tables
 fresh-words = rw (fresh-steps, fresh-results, fresh-services, fresh-characteristics, fresh-notifications, fresh-who, fresh-heard, fresh-keys)
-
-abbrev fresh-core : Core
-fresh-core =
-    record {
-      running = noRunning;
-      bearer = record { held = 0; link = record { handle = 0; mtu = 0; pending = 0; terminating = false }; present = false };
-      counters = record { «next_index» = 0; «refused_steps» = 0; notified = 0; «wait_from» = 0; links = 0 };
-      counts = record { waiting = 0; results = 0; services = 0; characteristics = 0; notifications = 0 };
-      reports = 0;
-      «key_count» = 0;
-    }
-
-pub fresh-law : central fresh-core no-words ≡ freshCentral
-unfolding freshCentral
-fresh-law = ap (centralOf fresh-core) fresh-words

@@ -1,0 +1,2 @@
+pub mod Presences
+pub mod Samples

@@ -1,0 +1,3 @@
+pub mod SplitLaws
+pub mod FragmentLaws
+pub mod RoundTrip

@@ -1,0 +1,3 @@
+pub mod Acl
+pub mod RoundTrip
+pub mod Sample

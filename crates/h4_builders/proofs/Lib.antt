@@ -1,0 +1,4 @@
+pub mod Pieces
+pub mod BuildLaws
+pub mod EventLaws
+pub mod AclLaws

@@ -1,0 +1,4 @@
+pub mod Packet
+pub mod Events
+pub mod Build
+pub mod Sample

@@ -1,0 +1,4 @@
+pub mod Numbers
+pub mod Packet
+pub mod Front
+pub mod Samples

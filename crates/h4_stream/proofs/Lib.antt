@@ -1,0 +1,4 @@
+pub mod CutLaws
+pub mod HandLaws
+pub mod WriteLaws
+pub mod FeedLaws

@@ -1,0 +1,3 @@
+pub mod Feeds
+pub mod Shown
+pub mod Untrue

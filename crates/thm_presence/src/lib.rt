@@ -1,0 +1,1 @@
+// A Connect goes on listed alone.
