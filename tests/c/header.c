@@ -460,7 +460,7 @@ static int late_answer(uint64_t options)
 /* The old mode takes the late answer; strict mode asks nothing more until the next link, and lets a wait pass. */
 static void options(void)
 {
-    static const barleyrope_state none;
+    static barleyrope_state none; /* all zero */
     uint32_t index;
     barleyrope_fresh_with(&state, 0);
     EXPECT(memcmp(&state, &none, sizeof state) == 0);
