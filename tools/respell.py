@@ -13,7 +13,7 @@ import re
 import subprocess
 import sys
 
-WORD = re.compile(r"[A-Za-z_][\w₀-₉']*")
+WORD = re.compile(r"(?<![\w'])[A-Za-z_][\w₀-₉']*")
 CAMEL = re.compile(r"[a-z][\w₀-₉']*$")
 CRATES = {"bytes": "bytes_base", "uuid": "uuid_value"}
 # lemmas that port.py left with the names that definitions get here
