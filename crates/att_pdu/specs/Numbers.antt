@@ -7,7 +7,7 @@ default_mtu = 23
 
 -- no handle is after this one (Core Vol 3 Part F 3.2.2)
 abbrev pub last_handle : ℕ
-last_handle = 0x_ffff
+last_handle = 0xFFFF
 
 -- opcodes, Core Vol 3 Part F 3.4.8
 abbrev pub op_error_rsp : ℕ
@@ -35,16 +35,16 @@ abbrev pub op_read_by_type_rsp : ℕ
 op_read_by_type_rsp = 0x09
 
 abbrev pub op_read_req : ℕ
-op_read_req = 0x0_a
+op_read_req = 0x0A
 
 abbrev pub op_read_rsp : ℕ
-op_read_rsp = 0x0_b
+op_read_rsp = 0x0B
 
 abbrev pub op_read_blob_req : ℕ
-op_read_blob_req = 0x0_c
+op_read_blob_req = 0x0C
 
 abbrev pub op_read_multiple_req : ℕ
-op_read_multiple_req = 0x0_e
+op_read_multiple_req = 0x0E
 
 abbrev pub op_read_by_group_type_req : ℕ
 op_read_by_group_type_req = 0x10
@@ -59,13 +59,13 @@ abbrev pub op_write_rsp : ℕ
 op_write_rsp = 0x13
 
 abbrev pub op_handle_value_ntf : ℕ
-op_handle_value_ntf = 0x1_b
+op_handle_value_ntf = 0x1B
 
 abbrev pub op_handle_value_ind : ℕ
-op_handle_value_ind = 0x1_d
+op_handle_value_ind = 0x1D
 
 abbrev pub op_handle_value_cfm : ℕ
-op_handle_value_cfm = 0x1_e
+op_handle_value_cfm = 0x1E
 
 abbrev pub op_write_cmd : ℕ
 op_write_cmd = 0x52
@@ -78,4 +78,4 @@ abbrev pub err_request_not_supported : ℕ
 err_request_not_supported = 0x06
 
 abbrev pub err_attribute_not_found : ℕ
-err_attribute_not_found = 0x0_a
+err_attribute_not_found = 0x0A

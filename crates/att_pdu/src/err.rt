@@ -3,4 +3,4 @@ pub const INVALID_HANDLE: u8 = 0x01;
 
 pub const REQUEST_NOT_SUPPORTED: u8 = 0x06;
 
-pub const ATTRIBUTE_NOT_FOUND: u8 = 0x0_a;
+pub const ATTRIBUTE_NOT_FOUND: u8 = 0x0A;

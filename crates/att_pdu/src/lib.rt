@@ -17,7 +17,7 @@ pub mod op;
 pub const DEFAULT_MTU: u16 = 23;
 
 // Core Vol 3 Part F 3.2.2: no handle is after this one.
-pub const LAST_HANDLE: u16 = 0x_ffff;
+pub const LAST_HANDLE: u16 = 0xFFFF;
 
 // An opcode and one number.
 fn with_number(opcode: u8, a: u16) -> [u8; 3]

@@ -15,13 +15,13 @@ pub const READ_BY_TYPE_REQ: u8 = 0x08;
 
 pub const READ_BY_TYPE_RSP: u8 = 0x09;
 
-pub const READ_REQ: u8 = 0x0_a;
+pub const READ_REQ: u8 = 0x0A;
 
-pub const READ_RSP: u8 = 0x0_b;
+pub const READ_RSP: u8 = 0x0B;
 
-pub const READ_BLOB_REQ: u8 = 0x0_c;
+pub const READ_BLOB_REQ: u8 = 0x0C;
 
-pub const READ_MULTIPLE_REQ: u8 = 0x0_e;
+pub const READ_MULTIPLE_REQ: u8 = 0x0E;
 
 pub const READ_BY_GROUP_TYPE_REQ: u8 = 0x10;
 
@@ -31,10 +31,10 @@ pub const WRITE_REQ: u8 = 0x12;
 
 pub const WRITE_RSP: u8 = 0x13;
 
-pub const HANDLE_VALUE_NTF: u8 = 0x1_b;
+pub const HANDLE_VALUE_NTF: u8 = 0x1B;
 
-pub const HANDLE_VALUE_IND: u8 = 0x1_d;
+pub const HANDLE_VALUE_IND: u8 = 0x1D;
 
-pub const HANDLE_VALUE_CFM: u8 = 0x1_e;
+pub const HANDLE_VALUE_CFM: u8 = 0x1E;
 
 pub const WRITE_CMD: u8 = 0x52;

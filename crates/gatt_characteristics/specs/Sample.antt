@@ -12,13 +12,13 @@ use Rattle.gatt_characteristics.specs.declared.Characteristic.{Characteristic}
 use Rattle.gatt_characteristics.specs.declared.Which.TheVariants as which
 
 abbrev one : ℕ → ℕ → Characteristic
-one d v = record { declaration = d; properties = 2; value_handle = v; uuid = short_of 0x2_a19; cccd = Unknown }
+one d v = record { declaration = d; properties = 2; value_handle = v; uuid = short_of 0x2A19; cccd = Unknown }
 
 abbrev old : Characteristic
-old = record { declaration = 5; properties = 16; value_handle = 6; uuid = short_of 0x2_a19; cccd = At 7 }
+old = record { declaration = 5; properties = 16; value_handle = 6; uuid = short_of 0x2A19; cccd = At 7 }
 
 abbrev answer : List ℕ
-answer = 9 ∷ 0 ∷ 2 ∷ 10 ∷ 0 ∷ 0x19 ∷ 0x2_a ∷ 5 ∷ 0 ∷ 2 ∷ 6 ∷ 0 ∷ 0x19 ∷ 0x2_a ∷ []
+answer = 9 ∷ 0 ∷ 2 ∷ 10 ∷ 0 ∷ 0x19 ∷ 0x2A ∷ 5 ∷ 0 ∷ 2 ∷ 6 ∷ 0 ∷ 0x19 ∷ 0x2A ∷ []
 
 -- a new one after, and one replaced, its CCCD gone
 two : taken more declaration_of 64 (old ∷ []) 65535 (entries 7 answer) ≡ have (one 5 6 ∷ one 9 10 ∷ []) 5 false
@@ -40,7 +40,7 @@ one_place : taken more declaration_of 1 (old ∷ []) 65535 (entries 7 answer) �
 unfolding taken with-one told enter put without entries chunks le le_at att_uuid
 one_place = refl
 
-the-first : characteristic_with (short_of 0x2_a19) (one 5 6 ∷ one 9 10 ∷ []) ≡ which.At (one 5 6)
+the-first : characteristic_with (short_of 0x2A19) (one 5 6 ∷ one 9 10 ∷ []) ≡ which.At (one 5 6)
 unfolding first
 the-first = refl
 

@@ -12,7 +12,7 @@ use Rattle.gatt_descriptors.specs.Named.{give, given, given_all, after}
 use Rattle.gatt_descriptors.specs.declared.Range.TheVariants.{Is, Nothing}
 
 abbrev one : ℕ → ℕ → Cccd → Characteristic
-one d v k = record { declaration = d; properties = 16; value_handle = v; uuid = short_of 0x2_a19; cccd = k }
+one d v k = record { declaration = d; properties = 16; value_handle = v; uuid = short_of 0x2A19; cccd = k }
 
 -- two characteristics of the service 1 to 9, and one of the next
 abbrev three : List Characteristic
@@ -28,7 +28,7 @@ unfolding first_range declared_in stop
 from-five = refl
 
 -- a value at FFFF has no handle after it
-at-the-end : first_range 1 0x_ffff (declared_in 1 0x_ffff (one 0x_fffe 0x_ffff Unknown ∷ [])) ≡ Nothing
+at-the-end : first_range 1 0xFFFF (declared_in 1 0xFFFF (one 0xFFFE 0xFFFF Unknown ∷ [])) ≡ Nothing
 unfolding first_range declared_in stop
 at-the-end = refl
 

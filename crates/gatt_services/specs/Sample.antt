@@ -13,11 +13,11 @@ abbrev old : Service
 old = record { start = 6; end = 7; uuid = short_of 0x1800 }
 
 abbrev new : Service
-new = record { start = 1; end = 5; uuid = short_of 0x180_f }
+new = record { start = 1; end = 5; uuid = short_of 0x180F }
 
 -- two services of 16-bit UUIDs and a byte left over; the second starts where a known one does, and is skipped
 abbrev answer : List ℕ
-answer = 1 ∷ 0 ∷ 5 ∷ 0 ∷ 0x0_f ∷ 0x18 ∷ 6 ∷ 0 ∷ 9 ∷ 0 ∷ 1 ∷ 0x18 ∷ 7 ∷ []
+answer = 1 ∷ 0 ∷ 5 ∷ 0 ∷ 0x0F ∷ 0x18 ∷ 6 ∷ 0 ∷ 9 ∷ 0 ∷ 1 ∷ 0x18 ∷ 7 ∷ []
 
 two : taken more end_of 32 (old ∷ []) 65535 (entries 6 answer) ≡ have (old ∷ new ∷ []) 9 false
 unfolding taken with-one told first entries chunks le le_at att_uuid
@@ -28,6 +28,6 @@ one_place : taken more end_of 1 (old ∷ []) 65535 (entries 6 answer) ≡ have (
 unfolding taken with-one told first entries chunks le le_at att_uuid
 one_place = refl
 
-the-first : service_with (short_of 0x180_f) (old ∷ new ∷ []) ≡ At new
+the-first : service_with (short_of 0x180F) (old ∷ new ∷ []) ≡ At new
 unfolding first
 the-first = refl

@@ -4,14 +4,14 @@ use Rattle.bytes_base.specs.Bytes.{le_bytes}
 
 -- 7.7.14, Command Complete: Num_HCI_Command_Packets, Command_Opcode, Return_Parameters
 abbrev pub code_command_complete : ℕ
-code_command_complete = 0x0_e
+code_command_complete = 0x0E
 
 abbrev pub command_complete : ℕ → ℕ → List ℕ → List ℕ
 command_complete num opcode returned = num ∷ (le_bytes 2 opcode ++ returned)
 
 -- 7.7.15, Command Status: Status, Num_HCI_Command_Packets, Command_Opcode
 abbrev pub code_command_status : ℕ
-code_command_status = 0x0_f
+code_command_status = 0x0F
 
 abbrev pub command_status : ℕ → ℕ → ℕ → List ℕ
 command_status num status opcode = status ∷ (num ∷ le_bytes 2 opcode)
@@ -31,7 +31,7 @@ completed_packets pairs = le_bytes 1 (length pairs / 2) ++ pair_bytes (length pa
 
 -- 7.7.65, LE Meta: Subevent_Code, and the subevent's parameters
 abbrev pub code_le_meta : ℕ
-code_le_meta = 0x3_e
+code_le_meta = 0x3E
 
 abbrev pub le_meta : ℕ → List ℕ → List ℕ
 le_meta subevent params = subevent ∷ params

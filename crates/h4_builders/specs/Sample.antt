@@ -6,12 +6,12 @@ use Rattle.h4_builders.specs.Events.{code_command_complete, command_complete, co
 use Rattle.h4_builders.specs.Build.{built, build, build_acl, build_event}
 
 -- three bytes on handle 0040, the first of a packet (flag 10)
-first-fragment : acl_packet 0x0040 2 (0x_aa ∷ 0x_bb ∷ 0x_cc ∷ []) ≡ 0x02 ∷ 0x40 ∷ 0x20 ∷ 0x03 ∷ 0x00 ∷ 0x_aa ∷ 0x_bb ∷ 0x_cc ∷ []
+first-fragment : acl_packet 0x0040 2 (0xAA ∷ 0xBB ∷ 0xCC ∷ []) ≡ 0x02 ∷ 0x40 ∷ 0x20 ∷ 0x03 ∷ 0x00 ∷ 0xAA ∷ 0xBB ∷ 0xCC ∷ []
 unfolding acl_packet le_bytes
 first-fragment = refl
 
 -- bits above the handle's 12 and the flag's 2 are dropped
-masked : acl_packet 0x_f040 5 [] ≡ 0x02 ∷ 0x40 ∷ 0x10 ∷ 0x00 ∷ 0x00 ∷ []
+masked : acl_packet 0xF040 5 [] ≡ 0x02 ∷ 0x40 ∷ 0x10 ∷ 0x00 ∷ 0x00 ∷ []
 unfolding acl_packet le_bytes
 masked = refl
 
@@ -21,12 +21,12 @@ unfolding event_packet event_header le_bytes
 plain-event = refl
 
 -- a Reset (0C03) is done; 5 commands may follow
-reset-done : event_packet code_command_complete (command_complete 5 0x0_c03 (0x00 ∷ [])) ≡ 0x04 ∷ 0x0_e ∷ 0x04 ∷ 0x05 ∷ 0x03 ∷ 0x0_c ∷ 0x00 ∷ []
+reset-done : event_packet code_command_complete (command_complete 5 0x0C03 (0x00 ∷ [])) ≡ 0x04 ∷ 0x0E ∷ 0x04 ∷ 0x05 ∷ 0x03 ∷ 0x0C ∷ 0x00 ∷ []
 unfolding event_packet event_header le_bytes
 reset-done = refl
 
 -- LE Create Connection (200D) is refused as disallowed (0C): the status comes before the number of commands
-status-first : event_packet code_command_status (command_status 5 0x0_c 0x200_d) ≡ 0x04 ∷ 0x0_f ∷ 0x04 ∷ 0x0_c ∷ 0x05 ∷ 0x0_d ∷ 0x20 ∷ []
+status-first : event_packet code_command_status (command_status 5 0x0C 0x200D) ≡ 0x04 ∷ 0x0F ∷ 0x04 ∷ 0x0C ∷ 0x05 ∷ 0x0D ∷ 0x20 ∷ []
 unfolding event_packet event_header le_bytes
 status-first = refl
 
@@ -36,28 +36,28 @@ odd-tail : event_packet code_completed_packets (completed_packets (0x0040 ∷ 1 
 unfolding event_packet event_header completed_packets pair_bytes le_bytes
 odd-tail = refl
 
-meta : event_packet code_le_meta (le_meta 0x05 (0x40 ∷ 0x00 ∷ [])) ≡ 0x04 ∷ 0x3_e ∷ 0x03 ∷ 0x05 ∷ 0x40 ∷ 0x00 ∷ []
+meta : event_packet code_le_meta (le_meta 0x05 (0x40 ∷ 0x00 ∷ [])) ≡ 0x04 ∷ 0x3E ∷ 0x03 ∷ 0x05 ∷ 0x40 ∷ 0x00 ∷ []
 unfolding event_packet event_header le_bytes
 meta = refl
 
 -- ---- the output
 
 -- the byte behind the packet stays
-stays : build_event (9 ∷ 9 ∷ 9 ∷ 9 ∷ 9 ∷ []) 0x3_e (0x01 ∷ []) ≡ built (0x04 ∷ 0x3_e ∷ 0x01 ∷ 0x01 ∷ 9 ∷ []) 0 4
+stays : build_event (9 ∷ 9 ∷ 9 ∷ 9 ∷ 9 ∷ []) 0x3E (0x01 ∷ []) ≡ built (0x04 ∷ 0x3E ∷ 0x01 ∷ 0x01 ∷ 9 ∷ []) 0 4
 unfolding build event_packet event_header le_bytes
 stays = refl
 
 -- one byte short
-short : build_event (9 ∷ 9 ∷ 9 ∷ []) 0x3_e (0x01 ∷ []) ≡ built (9 ∷ 9 ∷ 9 ∷ []) 2 0
+short : build_event (9 ∷ 9 ∷ 9 ∷ []) 0x3E (0x01 ∷ []) ≡ built (9 ∷ 9 ∷ 9 ∷ []) 2 0
 unfolding build event_packet event_header le_bytes
 short = refl
 
 -- 256 parameter bytes: 2 where the output has not the 259 bytes of that packet, 10 where it has
-short-and-long : build_event (replicate 258 9) 0x3_e (replicate 256 1) ≡ built (replicate 258 9) 2 0
+short-and-long : build_event (replicate 258 9) 0x3E (replicate 256 1) ≡ built (replicate 258 9) 2 0
 unfolding build event_packet event_header le_bytes
 short-and-long = refl
 
-long : build_event (replicate 259 9) 0x3_e (replicate 256 1) ≡ built (replicate 259 9) 10 0
+long : build_event (replicate 259 9) 0x3E (replicate 256 1) ≡ built (replicate 259 9) 10 0
 unfolding build event_packet event_header le_bytes
 long = refl
 

@@ -1,8 +1,8 @@
 // Event codes, Core Vol 4 Part E 7.7.
-pub const COMMAND_COMPLETE: u8 = 0x0_e;
+pub const COMMAND_COMPLETE: u8 = 0x0E;
 
-pub const COMMAND_STATUS: u8 = 0x0_f;
+pub const COMMAND_STATUS: u8 = 0x0F;
 
 pub const NUMBER_OF_COMPLETED_PACKETS: u8 = 0x13;
 
-pub const LE_META: u8 = 0x3_e;
+pub const LE_META: u8 = 0x3E;

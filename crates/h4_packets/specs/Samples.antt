@@ -8,15 +8,15 @@ use Rattle.h4_packets.specs.declared.Front.TheVariants.{More, Whole, BadIndicato
 
 pub record Lengths : Type 0 where
   -- HCI_Reset: no parameters, 4 + 0
-  pub command : packet_length (0x01 ∷ 0x03 ∷ 0x0_c ∷ 0x00 ∷ []) ≡ Known 4
+  pub command : packet_length (0x01 ∷ 0x03 ∷ 0x0C ∷ 0x00 ∷ []) ≡ Known 4
   -- length 0007 behind handle and flags: 5 + 7
   pub acl : packet_length (0x02 ∷ 0x40 ∷ 0x20 ∷ 0x07 ∷ 0x00 ∷ []) ≡ Known 12
   -- length 30: 4 + 48
   pub sco : packet_length (0x03 ∷ 0x40 ∷ 0x00 ∷ 0x30 ∷ []) ≡ Known 52
   -- HCI_Command_Complete of 4 parameter bytes: 3 + 4
-  pub event : packet_length (0x04 ∷ 0x0_e ∷ 0x04 ∷ []) ≡ Known 7
+  pub event : packet_length (0x04 ∷ 0x0E ∷ 0x04 ∷ []) ≡ Known 7
   -- C0F0 has both reserved bits set: 5 + 00F0
-  pub iso : packet_length (0x05 ∷ 0x40 ∷ 0x00 ∷ 0x_f0 ∷ 0x_c0 ∷ []) ≡ Known 245
+  pub iso : packet_length (0x05 ∷ 0x40 ∷ 0x00 ∷ 0xF0 ∷ 0xC0 ∷ []) ≡ Known 245
   pub nothing : packet_length [] ≡ Unknown
   pub half-a-length : packet_length (0x02 ∷ 0x40 ∷ 0x20 ∷ 0x07 ∷ []) ≡ Unknown
   pub below : packet_length (0x00 ∷ []) ≡ Undefined 0
@@ -39,15 +39,15 @@ lengths =
 
 pub record Fronts : Type 0 where
   -- an event of one parameter byte, and a byte of what follows
-  pub whole : front (0x04 ∷ 0x0_e ∷ 0x01 ∷ 0x07 ∷ 0x02 ∷ []) ≡ Whole 4
+  pub whole : front (0x04 ∷ 0x0E ∷ 0x01 ∷ 0x07 ∷ 0x02 ∷ []) ≡ Whole 4
   -- its last byte is still to come
-  pub one-short : front (0x04 ∷ 0x0_e ∷ 0x01 ∷ []) ≡ More
+  pub one-short : front (0x04 ∷ 0x0E ∷ 0x01 ∷ []) ≡ More
   -- 1,019 bytes of ACL data: 1,024 with indicator and header, and taken
-  pub longest : front (0x02 ∷ 0x40 ∷ 0x00 ∷ 0x_fb ∷ 0x03 ∷ []) ≡ More
+  pub longest : front (0x02 ∷ 0x40 ∷ 0x00 ∷ 0xFB ∷ 0x03 ∷ []) ≡ More
   -- 1,020: refused before any byte of the body is there
-  pub too_long : front (0x02 ∷ 0x40 ∷ 0x00 ∷ 0x_fc ∷ 0x03 ∷ []) ≡ LongPacket
+  pub too_long : front (0x02 ∷ 0x40 ∷ 0x00 ∷ 0xFC ∷ 0x03 ∷ []) ≡ LongPacket
   -- not before the header is complete
-  pub half-a-header : front (0x02 ∷ 0x40 ∷ 0x00 ∷ 0x_fc ∷ []) ≡ More
+  pub half-a-header : front (0x02 ∷ 0x40 ∷ 0x00 ∷ 0xFC ∷ []) ≡ More
   -- the first byte decides before the length
   pub bad : front (0x06 ∷ []) ≡ BadIndicator
 

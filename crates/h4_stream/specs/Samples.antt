@@ -9,14 +9,14 @@ use Rattle.h4_stream.specs.Feed.{fresh, answered, outcome, refused, feeding}
 
 -- an event of one parameter byte, and ACL data of two bytes
 abbrev event : List ℕ
-event = 0x04 ∷ 0x0_e ∷ 0x01 ∷ 0x07 ∷ []
+event = 0x04 ∷ 0x0E ∷ 0x01 ∷ 0x07 ∷ []
 
 abbrev acl : List ℕ
-acl = 0x02 ∷ 0x40 ∷ 0x20 ∷ 0x02 ∷ 0x00 ∷ 0x_aa ∷ 0x_bb ∷ []
+acl = 0x02 ∷ 0x40 ∷ 0x20 ∷ 0x02 ∷ 0x00 ∷ 0xAA ∷ 0xBB ∷ []
 
 -- bytes that nothing has written
 abbrev blank : ℕ → List ℕ
-blank n = replicate n 0x_ee
+blank n = replicate n 0xEE
 
 pub record Samples : Type 0 where
   -- two packets, and three bytes of a third, which are held
@@ -25,15 +25,15 @@ pub record Samples : Type 0 where
       ≡ outcome (answered 3 No 2 11) (0x02 ∷ 0x40 ∷ 0x20 ∷ blank 1021) (event ++ (acl ++ blank 4))
   -- the third is completed by the next feed: what was held goes out first, and the bytes where it was held stay
   pub completed :
-      feeding (record { count = 3; lost = No }) (0x02 ∷ 0x40 ∷ 0x20 ∷ blank 1021) (0x01 ∷ 0x00 ∷ 0x_cc ∷ []) (blank 6)
-      ≡ outcome (answered 0 No 1 6) (0x02 ∷ 0x40 ∷ 0x20 ∷ blank 1021) (0x02 ∷ 0x40 ∷ 0x20 ∷ 0x01 ∷ 0x00 ∷ 0x_cc ∷ [])
+      feeding (record { count = 3; lost = No }) (0x02 ∷ 0x40 ∷ 0x20 ∷ blank 1021) (0x01 ∷ 0x00 ∷ 0xCC ∷ []) (blank 6)
+      ≡ outcome (answered 0 No 1 6) (0x02 ∷ 0x40 ∷ 0x20 ∷ blank 1021) (0x02 ∷ 0x40 ∷ 0x20 ∷ 0x01 ∷ 0x00 ∷ 0xCC ∷ [])
   -- a bad indicator behind two packets: they come first, then 9, and nothing is held
   pub bad-behind-two :
       feeding fresh (blank 1024) (event ++ (acl ++ (0x07 ∷ 0x04 ∷ []))) (blank 13)
       ≡ outcome (answered 0 ByIndicator 2 11) (blank 1024) (event ++ (acl ++ blank 2))
   -- ACL data of 1,020 bytes, 1,025 with its header: 10, before any of it is there
   pub long-without-a-body :
-      feeding fresh (blank 1024) (0x02 ∷ 0x40 ∷ 0x20 ∷ 0x_fc ∷ 0x03 ∷ []) (blank 5)
+      feeding fresh (blank 1024) (0x02 ∷ 0x40 ∷ 0x20 ∷ 0xFC ∷ 0x03 ∷ []) (blank 5)
       ≡ outcome (answered 0 ByLength 0 0) (blank 1024) (blank 5)
   -- a lost stream takes nothing
   pub stays-lost :

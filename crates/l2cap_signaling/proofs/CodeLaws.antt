@@ -24,7 +24,7 @@ module _ (code id : ℕ) (pdu : List ℕ) where
   unlike k h = ne_eqb k code (λ e. h (sym e))
 
   pub code_other : (code ≡ 0x12 → ⊥) → (code ≡ 0x01 → ⊥) → (code ≡ 0x07 → ⊥) → (code ≡ 0x13 → ⊥) → (code ≡ 0x15 → ⊥) → (code ≡ 0x16 → ⊥)
-      → (code ≡ 0x18 → ⊥) → (code ≡ 0x1_a → ⊥) → code_answer code id pdu ≡ rejection id
+      → (code ≡ 0x18 → ⊥) → (code ≡ 0x1A → ⊥) → code_answer code id pdu ≡ rejection id
   unfolding code_answer among
   code_other h12 h01 h07 h13 h15 h16 h18 h1_a =
       rw (
@@ -35,16 +35,16 @@ module _ (code id : ℕ) (pdu : List ℕ) where
         unlike 0x15 h15,
         unlike 0x16 h16,
         unlike 0x18 h18,
-        unlike 0x1_a h1_a,
+        unlike 0x1A h1_a,
       )
 
   silent : (k : ℕ) → code_answer k id pdu ≡ silence → code ≡ k → code_answer code id pdu ≡ silence
   silent k h e = ap (λ (x : ℕ). code_answer x id pdu) e ∙ h
 
-  pub code-silent : (code ≡ 0x01) ⊎ ((code ≡ 0x07) ⊎ ((code ≡ 0x13) ⊎ ((code ≡ 0x18) ⊎ (code ≡ 0x1_a)))) → code_answer code id pdu ≡ silence
+  pub code-silent : (code ≡ 0x01) ⊎ ((code ≡ 0x07) ⊎ ((code ≡ 0x13) ⊎ ((code ≡ 0x18) ⊎ (code ≡ 0x1A)))) → code_answer code id pdu ≡ silence
   unfolding code_answer among
   code-silent w =
-      ⊎_elim (silent 0x01 refl) (λ w₁. ⊎_elim (silent 0x07 refl) (λ w₂. ⊎_elim (silent 0x13 refl) (λ w₃. ⊎_elim (silent 0x18 refl) (silent 0x1_a refl) w₃) w₂) w₁) w
+      ⊎_elim (silent 0x01 refl) (λ w₁. ⊎_elim (silent 0x07 refl) (λ w₂. ⊎_elim (silent 0x13 refl) (λ w₃. ⊎_elim (silent 0x18 refl) (silent 0x1A refl) w₃) w₂) w₁) w
 
   pub code-range : 0x15 ≤ code → code < 0x17 → code_answer code id pdu ≡ silence
   unfolding code_answer among

@@ -23,7 +23,7 @@ abbrev pub credit_connection_rsp : ℕ
 credit_connection_rsp = 0x18
 
 abbrev pub credit_reconfigure_rsp : ℕ
-credit_reconfigure_rsp = 0x1_a
+credit_reconfigure_rsp = 0x1A
 
 -- codes that ask for no answer: responses, and the indication of credits
 abbrev pub unanswered : List ℕ

@@ -13,4 +13,4 @@ pub const FLOW_CONTROL_CREDIT_IND: u8 = 0x16;
 
 pub const CREDIT_CONNECTION_RSP: u8 = 0x18;
 
-pub const CREDIT_RECONFIGURE_RSP: u8 = 0x1_a;
+pub const CREDIT_RECONFIGURE_RSP: u8 = 0x1A;

@@ -43,26 +43,26 @@ odd-none ks x a h = none_of ks x (λ w. h (eqb-true (x % 2) 0 (holds (λ (k : �
 
 -- a number below the notification's opcode is neither of the pair
 abbrev pub pair : List ℕ
-pair = 0x1_b ∷ 0x1_d ∷ []
+pair = 0x1B ∷ 0x1D ∷ []
 
-low-none : (x : ℕ) → x < 0x1_b → among x pair ≡ false
+low-none : (x : ℕ) → x < 0x1B → among x pair ≡ false
 unfolding all
-low-none x h = none_of pair x (λ w. let g = leb-true 0x1_b x (holds (leb 0x1_b) pair x refl w) in omega arith)
+low-none x h = none_of pair x (λ w. let g = leb-true 0x1B x (holds (leb 0x1B) pair x refl w) in omega arith)
 
 -- odd opcodes that the match tells apart before the range: no request is one
 abbrev pub responses : List ℕ
-responses = 0x03 ∷ 0x05 ∷ 0x07 ∷ 0x09 ∷ 0x0_b ∷ 0x0_d ∷ 0x0_f ∷ 0x11 ∷ []
+responses = 0x03 ∷ 0x05 ∷ 0x07 ∷ 0x09 ∷ 0x0B ∷ 0x0D ∷ 0x0F ∷ 0x11 ∷ []
 
 abbrev odd_low : ℕ → Bool
-odd_low k = ltb k 0x1_b && eqb (k % 2) 1
+odd_low k = ltb k 0x1B && eqb (k % 2) 1
 
-response-low : (x : ℕ) → OneOf responses x → x < 0x1_b
+response-low : (x : ℕ) → OneOf responses x → x < 0x1B
 unfolding all
-response-low x w = ltb-true x 0x1_b (both (ltb x 0x1_b) (eqb (x % 2) 1) (holds odd_low responses x refl w)).0
+response-low x w = ltb-true x 0x1B (both (ltb x 0x1B) (eqb (x % 2) 1) (holds odd_low responses x refl w)).0
 
 response-odd : (x : ℕ) → OneOf responses x → x % 2 ≡ 0 → ⊥
 unfolding all
-response-odd x w e = let o = eqb-true (x % 2) 1 (both (ltb x 0x1_b) (eqb (x % 2) 1) (holds odd_low responses x refl w)).1 in omega arith
+response-odd x w e = let o = eqb-true (x % 2) 1 (both (ltb x 0x1B) (eqb (x % 2) 1) (holds odd_low responses x refl w)).1 in omega arith
 
 -- ---- by opcode
 
@@ -76,20 +76,20 @@ module _ (w : World) (at : Micros) (n op handle : ℕ) where
   named : (f : ℕ → World) (k : ℕ) → f k ≡ by k → op ≡ k → f op ≡ by op
   named f k h e = subst (λ (x : ℕ). f x ≡ by x) (sym e) h
 
-  noticed : OneOf pair op → 3 ≤ n → notice w at n (eqb op 0x1_d) ≡ by op
+  noticed : OneOf pair op → 3 ≤ n → notice w at n (eqb op 0x1D) ≡ by op
   unfolding by_opcode among
   noticed k h =
       ⊎_elim
-      (named (λ (x : ℕ). notice w at n (eqb x 0x1_d)) 0x1_b (rw (le-leb 3 n h)))
-      (named (λ (x : ℕ). notice w at n (eqb x 0x1_d)) 0x1_d (rw (le-leb 3 n h)))
+      (named (λ (x : ℕ). notice w at n (eqb x 0x1D)) 0x1B (rw (le-leb 3 n h)))
+      (named (λ (x : ℕ). notice w at n (eqb x 0x1D)) 0x1D (rw (le-leb 3 n h)))
       k
 
   cut_short : OneOf pair op → n < 3 → on_response w at n ≡ by op
   unfolding by_opcode among
   cut_short k h =
       ⊎_elim
-      (named (λ (x : ℕ). on_response w at n) 0x1_b (rw (lt-leb 3 n h)))
-      (named (λ (x : ℕ). on_response w at n) 0x1_d (rw (lt-leb 3 n h)))
+      (named (λ (x : ℕ). on_response w at n) 0x1B (rw (lt-leb 3 n h)))
+      (named (λ (x : ℕ). on_response w at n) 0x1D (rw (lt-leb 3 n h)))
       k
 
   exchanged : op ≡ 0x02 → exchange w handle ≡ by op
@@ -106,11 +106,11 @@ module _ (w : World) (at : Micros) (n op handle : ℕ) where
   unfolding by_opcode among
   accessed k =
       let f : ℕ → World = λ x. refused x handle err_invalid_handle in
-      ⊎_elim (named f 0x0_a refl) (λ k₁. ⊎_elim (named f 0x0_c refl) (λ k₂. ⊎_elim (named f 0x0_e refl) (named f 0x12 refl) k₂) k₁) k
+      ⊎_elim (named f 0x0A refl) (λ k₁. ⊎_elim (named f 0x0C refl) (λ k₂. ⊎_elim (named f 0x0E refl) (named f 0x12 refl) k₂) k₁) k
 
-  unanswered : OneOf (0x1_e ∷ 0x52 ∷ []) op → w ≡ by op
+  unanswered : OneOf (0x1E ∷ 0x52 ∷ []) op → w ≡ by op
   unfolding by_opcode among
-  unanswered k = ⊎_elim (named (λ (x : ℕ). w) 0x1_e refl) (named (λ (x : ℕ). w) 0x52 refl) k
+  unanswered k = ⊎_elim (named (λ (x : ℕ). w) 0x1E refl) (named (λ (x : ℕ). w) 0x52 refl) k
 
   later : op ≡ 0x20 → refused op 0 err_request_not_supported ≡ by op
   unfolding by_opcode among
@@ -122,29 +122,29 @@ module _ (w : World) (at : Micros) (n op handle : ℕ) where
   unfolding by_opcode
   unnamed e₁ e₂ e₃ e₄ e₅ = rw (e₁, e₂, e₃, e₄, e₅)
 
-  no-silent : (OneOf (0x1_e ∷ 0x52 ∷ []) op → ⊥) → among op silent ≡ false
+  no-silent : (OneOf (0x1E ∷ 0x52 ∷ []) op → ⊥) → among op silent ≡ false
   no-silent h = none_of silent op (λ k. h (⊎_elim inr inl k))
 
-  even : op < 0x1_b → op % 2 ≡ 0 → (op ≡ 0x02 → ⊥) → (OneOf searches op → ⊥) → (OneOf accesses op → ⊥) → (OneOf (0x1_e ∷ 0x52 ∷ []) op → ⊥)
+  even : op < 0x1B → op % 2 ≡ 0 → (op ≡ 0x02 → ⊥) → (OneOf searches op → ⊥) → (OneOf accesses op → ⊥) → (OneOf (0x1E ∷ 0x52 ∷ []) op → ⊥)
       → refused op 0 err_request_not_supported ≡ by op
   even l e h₂ h₃ h₄ h₅ =
       sym
       (unnamed (low-none op l) (ne_eqb op 0x02 h₂) (none_of searches op h₃) (none_of accesses op h₄) (no-silent h₅)
-      ∙ rw (lt-ltb op 0x1_b l, eq-eqb (op % 2) 0 e))
+      ∙ rw (lt-ltb op 0x1B l, eq-eqb (op % 2) 0 e))
 
-  odd : op < 0x1_b → (op % 2 ≡ 0 → ⊥) → on_response w at n ≡ by op
+  odd : op < 0x1B → (op % 2 ≡ 0 → ⊥) → on_response w at n ≡ by op
   unfolding all
   odd l h =
       sym
       (unnamed (low-none op l) (ne_eqb op 0x02 (λ e. h (ap (λ (x : ℕ). x % 2) e))) (odd-none searches op refl h) (odd-none accesses op refl h) (odd-none silent op refl h)
-      ∙ rw (ne_eqb (op % 2) 0 h, ne_eqb op 0x20 (λ e. omega arith), lt-ltb op 0x1_b l))
+      ∙ rw (ne_eqb (op % 2) 0 h, ne_eqb op 0x20 (λ e. omega arith), lt-ltb op 0x1B l))
 
-  other : 0x1_b ≤ op → (OneOf pair op → ⊥) → (op ≡ 0x02 → ⊥) → (OneOf searches op → ⊥) → (OneOf accesses op → ⊥) → (OneOf (0x1_e ∷ 0x52 ∷ []) op → ⊥) → (op ≡ 0x20 → ⊥)
+  other : 0x1B ≤ op → (OneOf pair op → ⊥) → (op ≡ 0x02 → ⊥) → (OneOf searches op → ⊥) → (OneOf accesses op → ⊥) → (OneOf (0x1E ∷ 0x52 ∷ []) op → ⊥) → (op ≡ 0x20 → ⊥)
       → on_response w at n ≡ by op
   other g h₁ h₂ h₃ h₄ h₅ h₆ =
       sym
       (unnamed (none_of pair op h₁) (ne_eqb op 0x02 h₂) (none_of searches op h₃) (none_of accesses op h₄) (no-silent h₅)
-      ∙ rw (le-ltb op 0x1_b g, ne_eqb op 0x20 h₆))
+      ∙ rw (le-ltb op 0x1B g, ne_eqb op 0x20 h₆))
 
 -- ---- what each return asks
 
@@ -157,7 +157,7 @@ module _ (w : World) (at : Micros) (n op handle : ℕ) (some : n ≡ 0 → ⊥) 
   unfolding on_att
   decided e = e ∙ ap₂ (λ (x y : ℕ). by_opcode w at n x y) o h ∙ rw (ne_eqb n 0 some)
 
-  pub on_value : OneOf pair op → 3 ≤ n → r ≡ notice w at n (eqb op 0x1_d) → r ≡ on_att w at n
+  pub on_value : OneOf pair op → 3 ≤ n → r ≡ notice w at n (eqb op 0x1D) → r ≡ on_att w at n
   on_value k l e = decided (e ∙ noticed w at n op handle k l)
 
   pub on-short : OneOf pair op → n < 3 → r ≡ on_response w at n → r ≡ on_att w at n
@@ -172,7 +172,7 @@ module _ (w : World) (at : Micros) (n op handle : ℕ) (some : n ≡ 0 → ⊥) 
   pub on-access : OneOf accesses op → r ≡ on_told w (refuse w.told op handle err_invalid_handle) → r ≡ on_att w at n
   on-access k e = decided (e ∙ accessed w at n op handle k)
 
-  pub on-silent : OneOf (0x1_e ∷ 0x52 ∷ []) op → r ≡ w → r ≡ on_att w at n
+  pub on-silent : OneOf (0x1E ∷ 0x52 ∷ []) op → r ≡ w → r ≡ on_att w at n
   on-silent k e = decided (e ∙ unanswered w at n op handle k)
 
   pub on-later : op ≡ 0x20 → r ≡ on_told w (refuse w.told op 0 err_request_not_supported) → r ≡ on_att w at n
@@ -180,9 +180,9 @@ module _ (w : World) (at : Micros) (n op handle : ℕ) (some : n ≡ 0 → ⊥) 
 
   -- what is known past the named values
   abbrev past : Type 0
-  past = ((((((Unit {0} × (OneOf pair op → ⊥)) × (op ≡ 0x02 → ⊥)) × (OneOf searches op → ⊥)) × (OneOf accesses op → ⊥)) × (OneOf (0x1_e ∷ 0x52 ∷ []) op → ⊥)) × (OneOf responses op → ⊥)) × (op ≡ 0x20 → ⊥)
+  past = ((((((Unit {0} × (OneOf pair op → ⊥)) × (op ≡ 0x02 → ⊥)) × (OneOf searches op → ⊥)) × (OneOf accesses op → ⊥)) × (OneOf (0x1E ∷ 0x52 ∷ []) op → ⊥)) × (OneOf responses op → ⊥)) × (op ≡ 0x20 → ⊥)
 
-  pub on-even : (OneOf responses op) ⊎ (past × (op < 0x1_b)) → op % 2 ≡ 0 → r ≡ on_told w (refuse w.told op 0 err_request_not_supported) → r ≡ on_att w at n
+  pub on-even : (OneOf responses op) ⊎ (past × (op < 0x1B)) → op % 2 ≡ 0 → r ≡ on_told w (refuse w.told op 0 err_request_not_supported) → r ≡ on_att w at n
   on-even k z e =
       decided
       (e
@@ -191,10 +191,10 @@ module _ (w : World) (at : Micros) (n op handle : ℕ) (some : n ≡ 0 → ⊥) 
       (λ q. even w at n op handle q.1 z q.0.0.0.0.0.0.1 q.0.0.0.0.0.1 q.0.0.0.0.1 q.0.0.0.1)
       k)
 
-  pub on-odd : (OneOf responses op) ⊎ (past × (op < 0x1_b)) → (op % 2 ≡ 0 → ⊥) → r ≡ on_response w at n → r ≡ on_att w at n
+  pub on-odd : (OneOf responses op) ⊎ (past × (op < 0x1B)) → (op % 2 ≡ 0 → ⊥) → r ≡ on_response w at n → r ≡ on_att w at n
   on-odd k z e = decided (e ∙ odd w at n op handle (⊎_elim (response-low op) (λ q. q.1) k) z)
 
-  pub on-other : past → 0x1_b ≤ op → r ≡ on_response w at n → r ≡ on_att w at n
+  pub on-other : past → 0x1B ≤ op → r ≡ on_response w at n → r ≡ on_att w at n
   on-other q g e =
       decided
       (e

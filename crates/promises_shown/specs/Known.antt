@@ -26,7 +26,7 @@ knowing options =
         deadline = at 30000004;
         step = DiscoverCharacteristics battery;
         index = 0;
-        cursor = 0x_ffff;
+        cursor = 0xFFFF;
         len = 0;
         phase = 1;
         active = false;
@@ -36,9 +36,9 @@ knowing options =
       results = record { kept = record { index = 0; at = at 5; status = Ok; len = 0; heard = 0 } ∷ replicate 63 no_result; count = 1 };
       reports = fresh_central.reports;
       bearer = record { held = 0; link = record { handle = 64; mtu = 23; pending = 0; terminating = false }; present = true; closed = false };
-      services = record { kept = record { start = 0x_fffd; end = 0x_ffff; uuid = battery } ∷ replicate 31 zero-service; count = 1 };
+      services = record { kept = record { start = 0xFFFD; end = 0xFFFF; uuid = battery } ∷ replicate 31 zero-service; count = 1 };
       characteristics = record {
-        kept = record { declaration = 0x_fffe; value_handle = 0x_ffff; uuid = level; properties = 0x02; cccd = Unknown } ∷ replicate 63 zero-characteristic;
+        kept = record { declaration = 0xFFFE; value_handle = 0xFFFF; uuid = level; properties = 0x02; cccd = Unknown } ∷ replicate 63 zero-characteristic;
         count = 1;
       };
       notifications = fresh_central.notifications;
@@ -49,7 +49,7 @@ knowing options =
 unfoldable pub known_store : List ℕ
 known_store =
     replicate held_at 0
-    ++ (0x05 ∷ 0x00 ∷ 0x04 ∷ 0x00 ∷ 0x01 ∷ 0x08 ∷ 0x_ff ∷ 0x_ff ∷ 0x0_a ∷ 0x_ff ∷ 0x_ff ∷ 0x19 ∷ 0x2_a ∷ replicate (store_size - held_at - 13) 0)
+    ++ (0x05 ∷ 0x00 ∷ 0x04 ∷ 0x00 ∷ 0x01 ∷ 0x08 ∷ 0xFF ∷ 0xFF ∷ 0x0A ∷ 0xFF ∷ 0xFF ∷ 0x19 ∷ 0x2A ∷ replicate (store_size - held_at - 13) 0)
 
 abbrev pub knows : Held
 knows = record { state = knowing no_options; store = known_store }

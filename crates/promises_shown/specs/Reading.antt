@@ -47,7 +47,7 @@ before =
     ∷ []
 
 abbrev pub after : List Event
-after = asked 1 0x0_a ∷ came (att-heard answer) ∷ result read_out ∷ []
+after = asked 1 0x0A ∷ came (att-heard answer) ∷ result read_out ∷ []
 
 happened-before : events silence (fresh store) known ≡ before
 unfolding opened

@@ -99,7 +99,7 @@ asking_second = linked ++ (both 2 (placed (Capture true) 0) (placed (ExchangeMtu
 -- ---- a notification comes that has no whole handle
 
 abbrev pub brief : List ℕ
-brief = 0x1_b ∷ 0x03 ∷ []
+brief = 0x1B ∷ 0x03 ∷ []
 
 abbrev pub told : List Call
 told = linked ++ (att 2 brief ∷ [])
@@ -108,27 +108,27 @@ told = linked ++ (att 2 brief ∷ [])
 
 -- Battery Service, Battery Level
 abbrev pub battery : Uuid
-battery = short_of 0x180_f
+battery = short_of 0x180F
 
 abbrev pub level : Uuid
-level = short_of 0x2_a19
+level = short_of 0x2A19
 
 -- service 180F from FFFD to FFFF; in it a declaration at FFFE, readable, of the value at FFFF, 2A19; no more
 abbrev pub services : List ℕ
-services = 0x11 ∷ 0x06 ∷ 0x_fd ∷ 0x_ff ∷ 0x_ff ∷ 0x_ff ∷ 0x0_f ∷ 0x18 ∷ []
+services = 0x11 ∷ 0x06 ∷ 0xFD ∷ 0xFF ∷ 0xFF ∷ 0xFF ∷ 0x0F ∷ 0x18 ∷ []
 
 abbrev pub characteristics : List ℕ
-characteristics = 0x09 ∷ 0x07 ∷ 0x_fe ∷ 0x_ff ∷ 0x02 ∷ 0x_ff ∷ 0x_ff ∷ 0x19 ∷ 0x2_a ∷ []
+characteristics = 0x09 ∷ 0x07 ∷ 0xFE ∷ 0xFF ∷ 0x02 ∷ 0xFF ∷ 0xFF ∷ 0x19 ∷ 0x2A ∷ []
 
 abbrev pub no_more : List ℕ
-no_more = 0x01 ∷ 0x08 ∷ 0x_ff ∷ 0x_ff ∷ 0x0_a ∷ []
+no_more = 0x01 ∷ 0x08 ∷ 0xFF ∷ 0xFF ∷ 0x0A ∷ []
 
 abbrev pub known : List Call
 known = linked ++ (step 2 (DiscoverCharacteristics battery) ∷ att 3 services ∷ att 4 characteristics ∷ att 5 no_more ∷ [])
 
 -- it is read: 100 percent
 abbrev pub answer : List ℕ
-answer = 0x0_b ∷ 0x64 ∷ []
+answer = 0x0B ∷ 0x64 ∷ []
 
 abbrev pub reading : List Call
 reading = step 6 (Read level) ∷ att 7 answer ∷ []
@@ -138,11 +138,11 @@ abbrev pub fills : List Call
 fills = step 6 (WaitNotification level (ms 1000) Any) ∷ sixty_four 7 (Write level false) ∷ []
 
 abbrev pub indication : Call
-indication = att 8 (0x1_d ∷ 0x_ff ∷ 0x_ff ∷ [])
+indication = att 8 (0x1D ∷ 0xFF ∷ 0xFF ∷ [])
 
 -- a frame longer than the MTU of a new link: the peer asks for 247, and a value of 21 bytes goes out
 abbrev pub widens : List Call
-widens = att 6 (0x02 ∷ 0x_f7 ∷ 0x00 ∷ []) ∷ []
+widens = att 6 (0x02 ∷ 0xF7 ∷ 0x00 ∷ []) ∷ []
 
 abbrev pub command : Call
 command = batch out (at 7) (only (placed (Write level false) 21)) (replicate 21 0)

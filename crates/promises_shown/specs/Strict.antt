@@ -46,7 +46,7 @@ abbrev pub taken-over : Valued StepResult
 taken-over = record { entry = record { index = 2; at = at 30000007; status = Ok; len = 1; heard = 0 }; value = 0x64 ∷ [] }
 
 abbrev pub took_over : List Event
-took_over = asked 1 0x0_a ∷ result (ended 1 Timeout) ∷ asked 2 0x0_a ∷ came (att-heard answer) ∷ result taken-over ∷ []
+took_over = asked 1 0x0A ∷ result (ended 1 Timeout) ∷ asked 2 0x0A ∷ came (att-heard answer) ∷ result taken-over ∷ []
 
 took-over : events (link 64 []) knows bays ≡ took_over
 unfolding opened knowing known_store
@@ -76,7 +76,7 @@ unfolding opened knowing known_store
 strictly-known-is = refl
 
 abbrev pub closed : List Event
-closed = asked 1 0x0_a ∷ result (ended 1 Timeout) ∷ result (ended 2 BearerClosed) ∷ came (att-heard answer) ∷ []
+closed = asked 1 0x0A ∷ result (ended 1 Timeout) ∷ result (ended 2 BearerClosed) ∷ came (att-heard answer) ∷ []
 
 closed-so : events (link 64 []) strictly-known bays ≡ closed
 unfolding opened knowing known_store
@@ -123,7 +123,7 @@ late = linked ++ (step 2 (ExchangeMtu 23) ∷ timer out (at 30000002) ∷ [])
 
 -- an indication, a step that sends nothing, the link's loss
 abbrev pub indication : Call
-indication = att 30000003 (0x1_d ∷ 0x03 ∷ 0x00 ∷ [])
+indication = att 30000003 (0x1D ∷ 0x03 ∷ 0x00 ∷ [])
 
 abbrev pub captures : Call
 captures = step 30000003 (Capture true)
@@ -138,7 +138,7 @@ asks = step 30000004 (ExchangeMtu 23)
 pub record Lets : Type 0 where
   pub late-finished : finished (events silence strict late) ≡ true
   -- the indication is confirmed
-  pub confirmed : frames_in (does (run strict late) indication) ≡ record { channel = 4; payload = 0x1_e ∷ [] } ∷ []
+  pub confirmed : frames_in (does (run strict late) indication) ≡ record { channel = 4; payload = 0x1E ∷ [] } ∷ []
   pub still-finished : finished (events silence strict (late ++ (indication ∷ []))) ≡ true
   -- on the new link the request goes out
   pub asked-anew : frames_in (does (run strict anew) asks) ≡ record { channel = 4; payload = 0x02 ∷ 0x17 ∷ 0x00 ∷ [] } ∷ []

@@ -135,7 +135,7 @@ as_new [] = []
 as_new (x ∷ xs) = record { frame = x.frame; mtu = 23 } ∷ as_new xs
 
 -- a command with 21 bytes
-sent-24 : sent_by (run knows widens) command ≡ record { frame = record { channel = 4; payload = 0x52 ∷ 0x_ff ∷ 0x_ff ∷ replicate 21 0 }; mtu = 247 } ∷ []
+sent-24 : sent_by (run knows widens) command ≡ record { frame = record { channel = 4; payload = 0x52 ∷ 0xFF ∷ 0xFF ∷ replicate 21 0 }; mtu = 247 } ∷ []
 unfolding opened knowing known_store
 sent-24 = refl
 

@@ -176,7 +176,7 @@ gone = late ++ (disconnected (at 30000003) ∷ [])
 
 -- a notification comes before the timeout
 abbrev noticed : List Call
-noticed = linked ++ (step 2 (ExchangeMtu 23) ∷ att 3 (0x1_b ∷ 0x03 ∷ 0x00 ∷ []) ∷ over ∷ [])
+noticed = linked ++ (step 2 (ExchangeMtu 23) ∷ att 3 (0x1B ∷ 0x03 ∷ 0x00 ∷ []) ∷ over ∷ [])
 
 record Flag : Type 0 where
   gone-closed : (run strict gone).state.bearer.closed ≡ true

@@ -134,10 +134,10 @@ one-of-none r cs m p = omega (arith, sym m.said-is ∙ p store cs ∙ m.heard-is
 
 -- a notification of the handle 3 with the value A5, and its two parts
 abbrev start : List ℕ
-start = 0x04 ∷ 0x00 ∷ 0x04 ∷ 0x00 ∷ 0x1_b ∷ []
+start = 0x04 ∷ 0x00 ∷ 0x04 ∷ 0x00 ∷ 0x1B ∷ []
 
 abbrev rest : List ℕ
-rest = 0x03 ∷ 0x00 ∷ 0x_a5 ∷ []
+rest = 0x03 ∷ 0x00 ∷ 0xA5 ∷ []
 
 abbrev starts : List ℕ → Call
 starts bytes = fragment out (at 2) true bytes
@@ -173,7 +173,7 @@ abbrev surplus_kept : Rules
 surplus_kept = record { dropped = heard.dropped; joined = heard.joined; payload_of = λ b. drop 4 b; emptied = heard.emptied }
 
 abbrev surplus : List Call
-surplus = linked ++ (starts (0x02 ∷ 0x00 ∷ 0x04 ∷ 0x00 ∷ 0x1_b ∷ 0x03 ∷ 0x00 ∷ []) ∷ [])
+surplus = linked ++ (starts (0x02 ∷ 0x00 ∷ 0x04 ∷ 0x00 ∷ 0x1B ∷ 0x03 ∷ 0x00 ∷ []) ∷ [])
 
 too_much : Miscounted surplus_kept surplus 0 1
 unfolding opened

@@ -128,7 +128,7 @@ by_counts f = record { handle_of = value_of; counts = f; first = waits.first_of;
 
 -- heard at a time
 abbrev pub one : ℕ → Valued Notification
-one t = shown.heard_at t 0x_ffff 1 (0x64 ∷ [])
+one t = shown.heard_at t 0xFFFF 1 (0x64 ∷ [])
 
 none-counts : (f : Terms → Notification → Bool) (h : Held) (c : Call) (t now n : ℕ) → time_of c ≡ at now
     → ((handle : ℕ) → f (record { handle = handle; link = 1; now = at now; age = ms 2 }) (one t).entry ≡ false)
@@ -146,7 +146,7 @@ counts_before t x = eqb x.handle t.handle && eqb (x.link + 1) t.link && leb x.at
 
 pub counts-of-the-link-before : AgedWait (by_counts counts_before) → ⊥
 counts-of-the-link-before p =
-    none-counts counts_before _ _ 7 7 1 refl (λ handle. fails (eqb 0x_ffff handle)) (at-calls (by_counts counts_before) (shown.waits 6 ∷ []) (shown.tells 7 (0x64 ∷ [])) 7 1 _ [] shown.comes-then p)
+    none-counts counts_before _ _ 7 7 1 refl (λ handle. fails (eqb 0xFFFF handle)) (at-calls (by_counts counts_before) (shown.waits 6 ∷ []) (shown.tells 7 (0x64 ∷ [])) 7 1 _ [] shown.comes-then p)
   where
     fails : (a : Bool) → (a && false && true && true) ≡ false
     fails true = refl
@@ -158,7 +158,7 @@ counts_micros t x = eqb x.handle t.handle && eqb x.link t.link && leb x.at.0 t.n
 
 pub age-in-microseconds : AgedWait (by_counts counts_micros) → ⊥
 age-in-microseconds p =
-    none-counts counts_micros _ _ 6 1006 1 refl (λ handle. fails (eqb 0x_ffff handle))
+    none-counts counts_micros _ _ 6 1006 1 refl (λ handle. fails (eqb 0xFFFF handle))
     (at-calls (by_counts counts_micros) (shown.tells 6 (0x64 ∷ []) ∷ []) (shown.waits 1006) 1006 1 _ [] shown.came-before p)
   where
     fails : (a : Bool) → (a && true && true && false) ≡ false
@@ -171,7 +171,7 @@ counts_past t x = eqb x.handle t.handle && eqb x.link t.link && leb (x.at.0 + 1)
 
 pub counts-before-now-alone : AgedWait (by_counts counts_past) → ⊥
 counts-before-now-alone p =
-    none-counts counts_past _ _ 7 7 1 refl (λ handle. fails (eqb 0x_ffff handle)) (at-calls (by_counts counts_past) (shown.waits 6 ∷ []) (shown.tells 7 (0x64 ∷ [])) 7 1 _ [] shown.comes-then p)
+    none-counts counts_past _ _ 7 7 1 refl (λ handle. fails (eqb 0xFFFF handle)) (at-calls (by_counts counts_past) (shown.waits 6 ∷ []) (shown.tells 7 (0x64 ∷ [])) 7 1 _ [] shown.comes-then p)
   where
     fails : (a : Bool) → (a && true && false && true) ≡ false
     fails true = refl
@@ -193,7 +193,7 @@ abbrev telling : Call
 telling = shown.tells 7 (0x64 ∷ [])
 
 abbrev here : Characteristic
-here = record { declaration = 0x_fffe; value_handle = 0x_ffff; uuid = level; properties = 0x02; cccd = Unknown }
+here = record { declaration = 0xFFFE; value_handle = 0xFFFF; uuid = level; properties = 0x02; cccd = Unknown }
 
 abbrev seen : List Pass → Which
 seen ps = characteristic_with level (known (final (begins waiting telling) ps).held.state.characteristics)
@@ -300,17 +300,17 @@ not_there = refl
 
 -- 46 52, then 45 45; the wait looks for 52 45
 abbrev pair : List (Valued Notification)
-pair = shown.heard_at 6 0x_ffff 2 (0x46 ∷ 0x52 ∷ []) ∷ shown.heard_at 7 0x_ffff 2 (0x45 ∷ 0x45 ∷ []) ∷ []
+pair = shown.heard_at 6 0xFFFF 2 (0x46 ∷ 0x52 ∷ []) ∷ shown.heard_at 7 0xFFFF 2 (0x45 ∷ 0x45 ∷ []) ∷ []
 
 pub joined-newest-first : AgedWait newest_first → ⊥
 joined-newest-first p = missing _ (at-calls newest_first (shown.tells 6 (0x46 ∷ 0x52 ∷ []) ∷ shown.tells 7 (0x45 ∷ 0x45 ∷ []) ∷ []) (shown.looks 8) 8 2 _ (0x52 ∷ 0x45 ∷ []) shown.two-joined p)
   where
     missing : (h : Held) → Passed newest_first h (shown.looks 8) (shown.after pair) 0 level (ms 2) (0x52 ∷ 0x45 ∷ []) (shown.passed_at 8 2) → ⊥
-    missing h y = go (eqb 0x_ffff y.characteristic.value_handle) y.some
+    missing h y = go (eqb 0xFFFF y.characteristic.value_handle) y.some
       where
         go : (a : Bool)
-            → pick (a && true && true && true) (record { number = 0; notice = shown.heard_at 6 0x_ffff 2 (0x46 ∷ 0x52 ∷ []) } ∷ []) []
-            ++ (pick (a && true && true && true) (record { number = 1; notice = shown.heard_at 7 0x_ffff 2 (0x45 ∷ 0x45 ∷ []) } ∷ []) [] ++ [])
+            → pick (a && true && true && true) (record { number = 0; notice = shown.heard_at 6 0xFFFF 2 (0x46 ∷ 0x52 ∷ []) } ∷ []) []
+            ++ (pick (a && true && true && true) (record { number = 1; notice = shown.heard_at 7 0xFFFF 2 (0x45 ∷ 0x45 ∷ []) } ∷ []) [] ++ [])
             ≡ y.before ++ (y.newest ∷ []) → ⊥
         go true e = false≢true (sym not_there ∙ ap (contains (0x52 ∷ 0x45 ∷ [])) (ap joined_back e ∙ y.stands) ∙ found 0x52 (0x45 ∷ []) y.front y.rest)
         go false e = not_none y.before y.newest e
@@ -389,7 +389,7 @@ brought_as notices links b h (c ∷ cs) =
 
 -- a notification with a byte of value, on a new link
 abbrev notified : List Call
-notified = calls.linked ++ (calls.att 2 (0x1_b ∷ 0x03 ∷ 0x00 ∷ 0x_a5 ∷ []) ∷ [])
+notified = calls.linked ++ (calls.att 2 (0x1B ∷ 0x03 ∷ 0x00 ∷ 0xA5 ∷ []) ∷ [])
 
 abbrev size_of : List (Valued Notification) → ℕ
 size_of [] = 0

@@ -34,10 +34,10 @@ looks t = batch out (at t) (only (placed aged 2)) (0x52 ∷ 0x45 ∷ [])
 
 -- a notification of the battery level, whose handle is FFFF, and one of another handle
 abbrev pub tells : ℕ → List ℕ → Call
-tells t value = att t (0x1_b ∷ 0x_ff ∷ 0x_ff ∷ value)
+tells t value = att t (0x1B ∷ 0xFF ∷ 0xFF ∷ value)
 
 abbrev pub tells_other : ℕ → Call
-tells_other t = att t (0x1_b ∷ 0x05 ∷ 0x00 ∷ [])
+tells_other t = att t (0x1B ∷ 0x05 ∷ 0x00 ∷ [])
 
 -- ---- after `known`
 
@@ -133,24 +133,24 @@ abbrev pub after : List (Valued Notification) → Brought
 after l = record { air = link 64 []; links = 1; notices = l }
 
 -- the notification comes while the wait runs: the result names it, number 0
-pub comes-then : Comes (waits 6 ∷ []) (tells 7 (0x64 ∷ [])) (passed_at 7 1) (after (heard_at 7 0x_ffff 1 (0x64 ∷ []) ∷ [])) aged []
+pub comes-then : Comes (waits 6 ∷ []) (tells 7 (0x64 ∷ [])) (passed_at 7 1) (after (heard_at 7 0xFFFF 1 (0x64 ∷ []) ∷ [])) aged []
 unfolding opened knowing known_store
 comes-then = record { given = refl; brings-b = refl; from = refl; is = refl; has = refl }
 
 -- it came a millisecond before the wait begins
-pub came-before : Comes (tells 6 (0x64 ∷ []) ∷ []) (waits 1006) (passed_at 1006 1) (after (heard_at 6 0x_ffff 1 (0x64 ∷ []) ∷ [])) aged []
+pub came-before : Comes (tells 6 (0x64 ∷ []) ∷ []) (waits 1006) (passed_at 1006 1) (after (heard_at 6 0xFFFF 1 (0x64 ∷ []) ∷ [])) aged []
 unfolding opened knowing known_store
 came-before = record { given = refl; brings-b = refl; from = refl; is = refl; has = refl }
 
 -- another handle's came after it: the result names number 0 all the same
-pub other_after : Comes (tells 6 (0x64 ∷ []) ∷ tells_other 7 ∷ []) (waits 8) (passed_at 8 1) (after (heard_at 6 0x_ffff 1 (0x64 ∷ []) ∷ heard_at 7 0x0005 0 [] ∷ [])) aged []
+pub other_after : Comes (tells 6 (0x64 ∷ []) ∷ tells_other 7 ∷ []) (waits 8) (passed_at 8 1) (after (heard_at 6 0xFFFF 1 (0x64 ∷ []) ∷ heard_at 7 0x0005 0 [] ∷ [])) aged []
 unfolding opened knowing known_store
 other_after = record { given = refl; brings-b = refl; from = refl; is = refl; has = refl }
 
 -- 46 52 and 45 45 make 52 45, and the newer is named
 pub two-joined :
     Comes (tells 6 (0x46 ∷ 0x52 ∷ []) ∷ tells 7 (0x45 ∷ 0x45 ∷ []) ∷ []) (looks 8) (passed_at 8 2)
-    (after (heard_at 6 0x_ffff 2 (0x46 ∷ 0x52 ∷ []) ∷ heard_at 7 0x_ffff 2 (0x45 ∷ 0x45 ∷ []) ∷ [])) aged (0x52 ∷ 0x45 ∷ [])
+    (after (heard_at 6 0xFFFF 2 (0x46 ∷ 0x52 ∷ []) ∷ heard_at 7 0xFFFF 2 (0x45 ∷ 0x45 ∷ []) ∷ [])) aged (0x52 ∷ 0x45 ∷ [])
 unfolding opened knowing known_store
 two-joined = record { given = refl; brings-b = refl; from = refl; is = refl; has = refl }
 

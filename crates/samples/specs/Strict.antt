@@ -31,7 +31,7 @@ pub data Row : Type 0 where
 
 -- any UUID will do
 abbrev pub battery : Uuid
-battery = record { low = 0x2_a19; high = 0 }
+battery = record { low = 0x2A19; high = 0 }
 
 abbrev pub second : Millis
 second = record { 0 = 1000 }
@@ -44,13 +44,13 @@ over pending closed = record { held = 0; link = record { handle = 64; mtu = 23; 
 
 unfoldable pub table : List Row
 table =
-    Closes true (Read battery) 0x0_a true
+    Closes true (Read battery) 0x0A true
     ∷ Closes true DiscoverServices 0x10 true
     -- nothing is awaited: the link is another than the one that the request went out on
     ∷ Closes true (Read battery) 0 false
     ∷ Closes true (WaitNotification battery second Any) 0 false
     -- the old mode
-    ∷ Closes false (Read battery) 0x0_a false
+    ∷ Closes false (Read battery) 0x0A false
     -- what could send ATT
     ∷ Bars true true (ExchangeMtu 185) true
     ∷ Bars true true DiscoverServices true

@@ -39,7 +39,7 @@ data IsResponse (op : ℕ) : Type 0 where
   to-mtu : op ≡ 0x03 → IsResponse op
   to-information : op ≡ 0x05 → IsResponse op
   to_type : op ≡ 0x09 → IsResponse op
-  to_read : op ≡ 0x0_b → IsResponse op
+  to_read : op ≡ 0x0B → IsResponse op
   to-group : op ≡ 0x11 → IsResponse op
   to_write : op ≡ 0x13 → IsResponse op
 

@@ -14,7 +14,7 @@ ends status = result (record { entry = record { index = 0; at = record { 0 = 300
 
 -- a link, the request
 abbrev asks : List Event
-asks = came (link-came 64) ∷ asked 0 0x0_a ∷ []
+asks = came (link-came 64) ∷ asked 0 0x0A ∷ []
 
 abbrev late : List Event
 late = asks ++ (ends Timeout ∷ [])
@@ -23,7 +23,7 @@ late = asks ++ (ends Timeout ∷ [])
 pub shown-late : finished late ≡ true
 shown-late = refl
 
-pub shown-answer : finished (late ++ (came (att-heard (0x0_b ∷ 0x64 ∷ [])) ∷ [])) ≡ true
+pub shown-answer : finished (late ++ (came (att-heard (0x0B ∷ 0x64 ∷ [])) ∷ [])) ≡ true
 shown-answer = refl
 
 -- when the link goes, too; a new link's bearer is open
@@ -36,16 +36,16 @@ shown-new = refl
 -- what comes meanwhile does not count as its answer: a notification, a response to another request, an error that names another
 abbrev others : List Event
 others =
-    came (att-heard (0x1_b ∷ 0x03 ∷ 0x00 ∷ []))
+    came (att-heard (0x1B ∷ 0x03 ∷ 0x00 ∷ []))
     ∷ came (att-heard (0x13 ∷ []))
-    ∷ came (att-heard (0x01 ∷ 0x08 ∷ 0x00 ∷ 0x00 ∷ 0x0_a ∷ []))
+    ∷ came (att-heard (0x01 ∷ 0x08 ∷ 0x00 ∷ 0x00 ∷ 0x0A ∷ []))
     ∷ []
 
 pub shown-other : finished (asks ++ others ++ (ends Timeout ∷ [])) ≡ true
 shown-other = refl
 
 -- not finished: the answer came; the step was cut off; a new link came under the running step, which then timed out
-pub shown-answered : finished (asks ++ (came (att-heard (0x0_b ∷ 0x64 ∷ [])) ∷ ends Timeout ∷ [])) ≡ false
+pub shown-answered : finished (asks ++ (came (att-heard (0x0B ∷ 0x64 ∷ [])) ∷ ends Timeout ∷ [])) ≡ false
 shown-answered = refl
 
 pub shown-cut : finished (asks ++ (ends Disconnected ∷ [])) ≡ false
@@ -55,7 +55,7 @@ pub shown-under : finished (asks ++ (came (link-came 65) ∷ ends Timeout ∷ []
 shown-under = refl
 
 -- a read request and a write command on channel 4; a confirmation; a read request's bytes on another channel
-pub shown-request : initiates 4 (0x0_a ∷ 0x03 ∷ 0x00 ∷ []) ≡ true
+pub shown-request : initiates 4 (0x0A ∷ 0x03 ∷ 0x00 ∷ []) ≡ true
 unfolding among
 shown-request = refl
 
@@ -63,10 +63,10 @@ pub shown-command : initiates 4 (0x52 ∷ 0x03 ∷ 0x00 ∷ []) ≡ true
 unfolding among
 shown-command = refl
 
-pub shown-confirmation : initiates 4 (0x1_e ∷ []) ≡ false
+pub shown-confirmation : initiates 4 (0x1E ∷ []) ≡ false
 unfolding among
 shown-confirmation = refl
 
-pub shown-channel : initiates 6 (0x0_a ∷ 0x03 ∷ 0x00 ∷ []) ≡ false
+pub shown-channel : initiates 6 (0x0A ∷ 0x03 ∷ 0x00 ∷ []) ≡ false
 unfolding among
 shown-channel = refl

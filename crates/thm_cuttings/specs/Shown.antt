@@ -11,24 +11,24 @@ use Rattle.thm_cuttings.specs.Feeds.{Feed, Result, result, feeds, all_bytes, are
 
 -- an event of one parameter byte, and ACL data of two bytes
 abbrev pub event : List ℕ
-event = 0x04 ∷ 0x0_e ∷ 0x01 ∷ 0x07 ∷ []
+event = 0x04 ∷ 0x0E ∷ 0x01 ∷ 0x07 ∷ []
 
 abbrev pub acl : List ℕ
-acl = 0x02 ∷ 0x40 ∷ 0x20 ∷ 0x02 ∷ 0x00 ∷ 0x_aa ∷ 0x_bb ∷ []
+acl = 0x02 ∷ 0x40 ∷ 0x20 ∷ 0x02 ∷ 0x00 ∷ 0xAA ∷ 0xBB ∷ []
 
 abbrev pub blank : List ℕ
-blank = replicate 1024 0x_ee
+blank = replicate 1024 0xEE
 
 -- with room in the output
 abbrev pub lent : List ℕ → Feed
-lent s = record { bytes = s; out = replicate 16 0x_dd }
+lent s = record { bytes = s; out = replicate 16 0xDD }
 
 -- both packets in four feeds, cut inside both headers and inside the ACL length
 abbrev first : Feed
 first = lent (0x04 ∷ [])
 
 abbrev others : List Feed
-others = lent (0x0_e ∷ 0x01 ∷ []) ∷ lent (0x07 ∷ 0x02 ∷ 0x40 ∷ 0x20 ∷ 0x02 ∷ []) ∷ lent (0x00 ∷ 0x_aa ∷ 0x_bb ∷ []) ∷ []
+others = lent (0x0E ∷ 0x01 ∷ []) ∷ lent (0x07 ∷ 0x02 ∷ 0x40 ∷ 0x20 ∷ 0x02 ∷ []) ∷ lent (0x00 ∷ 0xAA ∷ 0xBB ∷ []) ∷ []
 
 abbrev both : Result
 both = record { packets = 2; bytes = event ++ acl; stream = fresh; held = []; refusal = 0 }
@@ -37,7 +37,7 @@ pub record Pieces : Type 0 where
   pub taken : are_taken fresh blank first others ≡ true
   pub all : all_bytes first others ≡ event ++ acl
   pub in_pieces : feeds fresh blank first others ≡ both
-  pub at_once : result (feeding fresh blank (event ++ acl) (replicate 16 0x_dd)) ≡ both
+  pub at_once : result (feeding fresh blank (event ++ acl) (replicate 16 0xDD)) ≡ both
 
 pub pieces : Pieces
 unfolding are_taken all_bytes feeds feeding cutting joined front packet_length length_by le_at le
@@ -52,7 +52,7 @@ ended = record { packets = 1; bytes = event; stream = record { count = 0; lost =
 
 pub record Lost-on-the-way : Type 0 where
   pub in_pieces : feeds half (event ++ blank) (lent (0x01 ∷ 0x07 ∷ 0x09 ∷ [])) (lent event ∷ []) ≡ ended
-  pub at_once : result (feeding half (event ++ blank) (0x01 ∷ 0x07 ∷ 0x09 ∷ event) (replicate 16 0x_dd)) ≡ ended
+  pub at_once : result (feeding half (event ++ blank) (0x01 ∷ 0x07 ∷ 0x09 ∷ event) (replicate 16 0xDD)) ≡ ended
 
 pub lost-on-the-way : Lost-on-the-way
 unfolding are_taken all_bytes feeds feeding cutting joined front packet_length length_by le_at le

@@ -30,7 +30,7 @@ pub refused-by-2-and-forgotten :
 unfolding feeding cutting joined front packet_length length_by le_at le
 refused-by-2-and-forgotten p =
     let e : ◌≡◌ {A = ℕ} 9 0 =
-    p fresh blank (record { bytes = 0x04 ∷ []; out = [] }) (lent (0x0_e ∷ 0x01 ∷ 0x07 ∷ [])) (replicate 16 0x_dd) refl refl refl in
+    p fresh blank (record { bytes = 0x04 ∷ []; out = [] }) (lent (0x0E ∷ 0x01 ∷ 0x07 ∷ [])) (replicate 16 0xDD) refl refl refl in
     omega arith
 
 -- an event in two feeds leaves its first byte where it was held
@@ -43,8 +43,8 @@ pub bytes-behind-those-held-too :
     → ⊥
 unfolding feeding cutting joined front packet_length length_by le_at le
 bytes-behind-those-held-too p =
-    let e : ◌≡◌ {A = ℕ} 0x04 0x_ee =
-    ap (λ (l : List ℕ). get_or l 0 0) (p fresh blank (lent (0x04 ∷ [])) (lent (0x0_e ∷ 0x01 ∷ 0x07 ∷ [])) (replicate 16 0x_dd) refl refl refl) in
+    let e : ◌≡◌ {A = ℕ} 0x04 0xEE =
+    ap (λ (l : List ℕ). get_or l 0 0) (p fresh blank (lent (0x04 ∷ [])) (lent (0x0E ∷ 0x01 ∷ 0x07 ∷ [])) (replicate 16 0xDD) refl refl refl) in
     omega arith
 
 -- a bad indicator in the second feed
@@ -57,5 +57,5 @@ pub refusal-of-the-first-feed :
     → ⊥
 unfolding feeding cutting joined front packet_length length_by le_at le
 refusal-of-the-first-feed p =
-    let e : ◌≡◌ {A = ℕ} 0 9 = p fresh blank (lent event) (lent (0x09 ∷ [])) (replicate 16 0x_dd) refl refl refl in
+    let e : ◌≡◌ {A = ℕ} 0 9 = p fresh blank (lent event) (lent (0x09 ∷ [])) (replicate 16 0xDD) refl refl refl in
     omega arith

@@ -15,17 +15,17 @@ piece start bytes = fragment [] now start bytes
 
 -- a notification of the handle 3 with the value A5 (Core Vol 3 Part F 3.4.7.1), in a frame of 4 bytes for channel 4, and a byte too much
 abbrev first : Call
-first = piece true (0x04 ∷ 0x00 ∷ 0x04 ∷ 0x00 ∷ 0x1_b ∷ [])
+first = piece true (0x04 ∷ 0x00 ∷ 0x04 ∷ 0x00 ∷ 0x1B ∷ [])
 
 abbrev second : Call
-second = piece false (0x03 ∷ 0x00 ∷ 0x_a5 ∷ 0x_ff ∷ [])
+second = piece false (0x03 ∷ 0x00 ∷ 0xA5 ∷ 0xFF ∷ [])
 
 -- two fragments make one notification: nothing is heard of the first, and nothing is held after the second
 pub shown-first : news (link 64 []) first 0 ≡ []
 unfolding le
 shown-first = refl
 
-pub shown-second : news (after (link 64 []) first 0) second 0 ≡ att-heard (0x1_b ∷ 0x03 ∷ 0x00 ∷ 0x_a5 ∷ []) ∷ []
+pub shown-second : news (after (link 64 []) first 0) second 0 ≡ att-heard (0x1B ∷ 0x03 ∷ 0x00 ∷ 0xA5 ∷ []) ∷ []
 unfolding le
 shown-second = refl
 

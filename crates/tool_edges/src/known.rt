@@ -7,7 +7,7 @@ use uuid_value::Uuid;
 
 // 2A19, the battery level.
 pub const LEVEL: Uuid = Uuid {
-    low: 0x8000_0080_5_f9_b_34_fb,
+    low: 0x8000_0080_5F9B_34FB,
     high: 0x0000_2A19_0000_1000,
 };
 

@@ -9,10 +9,10 @@ use uuid_value::Uuid;
 const ADV_IND: u8 = 0;
 
 // Flags, then a list of 180F.
-const DATA: [u8; 7] = [0x02, 0x01, 0x06, 0x03, 0x03, 0x0_f, 0x18];
+const DATA: [u8; 7] = [0x02, 0x01, 0x06, 0x03, 0x03, 0x0F, 0x18];
 
 // A list of 180A and 180F.
-const RESPONSE: [u8; 6] = [0x05, 0x03, 0x0_a, 0x18, 0x0_f, 0x18];
+const RESPONSE: [u8; 6] = [0x05, 0x03, 0x0A, 0x18, 0x0F, 0x18];
 
 const SCAN: Step = Step::Scan { ms: Millis(60_000) };
 
@@ -110,7 +110,7 @@ fn tell(s: State, store: &[u8], i: usize) {
         b"    scan response of ",
         radio_views::report_response(s.core, &tables, store, i),
     );
-    tell_body(s, store, i, 0x180_f);
+    tell_body(s, store, i, 0x180F);
     tell_body(s, store, i, 0x180A);
     tell_body(s, store, i, 0x1801);
 }

@@ -56,12 +56,12 @@ fn within(handle: u16, start: u16, end: u16) -> bool {
 // UUIDs of 2 and 16 bytes do not go into one answer: a service an answer.
 fn services(to: &mut [u8], start: u16, end: u16) -> usize {
     if within(BATTERY, start, end) {
-        return send(to, b"\x11\x06\x01\x00\x04\x00\x0_f\x18");
+        return send(to, b"\x11\x06\x01\x00\x04\x00\x0F\x18");
     }
     if within(BAY, start, end) {
         return send(
             to,
-            b"\x11\x14\x05\x00\x0_a\x00\x9E\xCA\xDC\x24\x0_e\xE5\xA9\x_e0\x93\x_f3\xA3\xB5\x01\x00\x40\x6E",
+            b"\x11\x14\x05\x00\x0A\x00\x9E\xCA\xDC\x24\x0E\xE5\xA9\xE0\x93\xF3\xA3\xB5\x01\x00\x40\x6E",
         );
     }
     refuse(
@@ -74,16 +74,16 @@ fn services(to: &mut [u8], start: u16, end: u16) -> usize {
 
 fn characteristics(to: &mut [u8], start: u16, end: u16) -> usize {
     if within(LEVEL, start, end) {
-        return send(to, b"\x09\x07\x02\x00\x12\x03\x00\x19\x2_a");
+        return send(to, b"\x09\x07\x02\x00\x12\x03\x00\x19\x2A");
     }
     if within(OCCUPANCY, start, end) {
         return send(
             to,
-            b"\x09\x15\x06\x00\x12\x07\x00\x9E\xCA\xDC\x24\x0_e\xE5\xA9\x_e0\x93\x_f3\xA3\xB5\x03\x00\x40\x6E",
+            b"\x09\x15\x06\x00\x12\x07\x00\x9E\xCA\xDC\x24\x0E\xE5\xA9\xE0\x93\xF3\xA3\xB5\x03\x00\x40\x6E",
         );
     }
     if within(STRING, start, end) {
-        return send(to, b"\x09\x07\x09\x00\x02\x0_a\x00\x3D\x2_a");
+        return send(to, b"\x09\x07\x09\x00\x02\x0A\x00\x3D\x2A");
     }
     refuse(to, op::READ_BY_TYPE_REQ, start, err::ATTRIBUTE_NOT_FOUND)
 }
@@ -106,7 +106,7 @@ fn descriptors(to: &mut [u8], start: u16, end: u16) -> usize {
 
 fn read(to: &mut [u8], handle: u16) -> usize {
     match handle {
-        LEVEL_VALUE => send(to, b"\x0_b\x57"),
+        LEVEL_VALUE => send(to, b"\x0B\x57"),
         STRING_VALUE => send(to, b"\x0BBay 042, level 2, north side"),
         _ => refuse(to, op::READ_REQ, handle, err::INVALID_HANDLE),
     }

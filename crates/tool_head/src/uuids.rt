@@ -2,7 +2,7 @@
 use uuid_value::Uuid;
 
 // The half that all assigned numbers have in common.
-const ASSIGNED: u64 = 0x8000_0080_5_f9_b_34_fb;
+const ASSIGNED: u64 = 0x8000_0080_5F9B_34FB;
 
 // 180F.
 pub const BATTERY: Uuid = Uuid {

@@ -4,7 +4,7 @@ use state::Step;
 use uuid_value::Uuid;
 
 // The half that all 16-bit UUIDs have in common.
-const BASE: u64 = 0x8000_0080_5_f9_b_34_fb;
+const BASE: u64 = 0x8000_0080_5F9B_34FB;
 
 // FF00, the head's own service.
 const BAYS: Uuid = Uuid {

@@ -37,14 +37,14 @@ fn services(core: Core, tables: &mut [u64; 1152], store: &mut [u8], out: &mut [u
         tables,
         store,
         out,
-        b"\x08\x00\x04\x00\x11\x06\x01\x00\x05\x00\x00\x_ff",
+        b"\x08\x00\x04\x00\x11\x06\x01\x00\x05\x00\x00\xFF",
     );
     answered(
         one,
         tables,
         store,
         out,
-        b"\x05\x00\x04\x00\x01\x10\x06\x00\x0_a",
+        b"\x05\x00\x04\x00\x01\x10\x06\x00\x0A",
     )
 }
 
@@ -55,14 +55,14 @@ fn bays(core: Core, tables: &mut [u64; 1152], store: &mut [u8], out: &mut [u8]) 
         tables,
         store,
         out,
-        b"\x10\x00\x04\x00\x09\x07\x02\x00\x02\x03\x00\x14\x_ff\x04\x00\x02\x05\x00\x15\x_ff",
+        b"\x10\x00\x04\x00\x09\x07\x02\x00\x02\x03\x00\x14\xFF\x04\x00\x02\x05\x00\x15\xFF",
     );
     answered(
         both,
         tables,
         store,
         out,
-        b"\x05\x00\x04\x00\x01\x08\x05\x00\x0_a",
+        b"\x05\x00\x04\x00\x01\x08\x05\x00\x0A",
     )
 }
 

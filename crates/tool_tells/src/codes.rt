@@ -16,10 +16,10 @@ pub fn reason(x: u8) {
 // ATT error codes from 0C on, Core Vol 3 Part F 3.4.1.1.
 fn late_error(x: u8) {
     match x {
-        0x0_c => tool_say::text(b"encryption key too short"),
-        0x0_d => tool_say::text(b"invalid value length"),
-        0x0_e => tool_say::text(b"unlikely error"),
-        0x0_f => tool_say::text(b"insufficient encryption"),
+        0x0C => tool_say::text(b"encryption key too short"),
+        0x0D => tool_say::text(b"invalid value length"),
+        0x0E => tool_say::text(b"unlikely error"),
+        0x0F => tool_say::text(b"insufficient encryption"),
         0x10 => tool_say::text(b"unsupported group type"),
         0x11 => tool_say::text(b"insufficient resources"),
         _ => tool_say::text(b"another error"),
@@ -38,8 +38,8 @@ fn early_error(x: u8) {
         0x07 => tool_say::text(b"invalid offset"),
         0x08 => tool_say::text(b"insufficient authorization"),
         0x09 => tool_say::text(b"prepare queue full"),
-        0x0_a => tool_say::text(b"attribute not found"),
-        0x0_b => tool_say::text(b"attribute not long"),
+        0x0A => tool_say::text(b"attribute not found"),
+        0x0B => tool_say::text(b"attribute not long"),
         _ => late_error(x),
     }
 }

@@ -58,7 +58,7 @@ some_at (row ∷ rows) at s h =
     rw (b, some_at rows at s q.1)
 
 module _ (s : List ℕ) (at a b c d : ℕ) (is-a : a ≡ get_or s at 256) (is_b : b ≡ get_or s (at + 1) 256) (is_c : c ≡ get_or s (at + 2) 256) (is-d : d ≡ get_or s (at + 3) 256) where
-  is_one : some ones (drop at s) ≡ leb a 0x7_f
+  is_one : some ones (drop at s) ≡ leb a 0x7F
   is_one = some_at ones at s refl ∙ rw (add-zero, ← is-a, leb-zero, and-true, or-false)
 
   is-two : some twos (drop at s) ≡ some twos (a ∷ b ∷ [])
@@ -74,28 +74,28 @@ module _ (s : List ℕ) (at a b c d : ℕ) (is-a : a ≡ get_or s at 256) (is_b 
   is-four = some_at fours at s refl ∙ rw (add-zero, ← is-a, ← is_b, ← is_c, ← is-d)
 
   sequence-is : sequence (drop at s)
-      ≡ pick (leb a 0x7_f) 1 (pick (some twos (a ∷ b ∷ [])) 2 (pick (some threes (a ∷ b ∷ c ∷ [])) 3 (pick (some fours (a ∷ b ∷ c ∷ d ∷ [])) 4 0)))
+      ≡ pick (leb a 0x7F) 1 (pick (some twos (a ∷ b ∷ [])) 2 (pick (some threes (a ∷ b ∷ c ∷ [])) 3 (pick (some fours (a ∷ b ∷ c ∷ d ∷ [])) 4 0)))
   unfolding sequence
   sequence-is = rw (is_one, is-two, is-three, is-four)
 
-  pub one_byte : a ≤ 0x7_f → 1 ≡ sequence (drop at s)
-  one_byte h = sym (sequence-is ∙ rw (le-leb a 0x7_f h))
+  pub one_byte : a ≤ 0x7F → 1 ≡ sequence (drop at s)
+  one_byte h = sym (sequence-is ∙ rw (le-leb a 0x7F h))
 
   -- the tests one after another, each with its answer
-  module _ (not-one : 0x7_f < a) (t : Bool) (is-t : t ≡ some twos (a ∷ b ∷ [])) where
+  module _ (not-one : 0x7F < a) (t : Bool) (is-t : t ≡ some twos (a ∷ b ∷ [])) where
     pub two_bytes : t ≡ true → 2 ≡ sequence (drop at s)
-    two_bytes h = sym (sequence-is ∙ rw (lt-leb a 0x7_f not-one, ← is-t, h))
+    two_bytes h = sym (sequence-is ∙ rw (lt-leb a 0x7F not-one, ← is-t, h))
 
     module _ (not-two : t ≡ false) (u : Bool) (is-u : u ≡ some threes (a ∷ b ∷ c ∷ [])) where
       pub three-bytes : u ≡ true → 3 ≡ sequence (drop at s)
-      three-bytes h = sym (sequence-is ∙ rw (lt-leb a 0x7_f not-one, ← is-t, not-two, ← is-u, h))
+      three-bytes h = sym (sequence-is ∙ rw (lt-leb a 0x7F not-one, ← is-t, not-two, ← is-u, h))
 
       module _ (not_three : u ≡ false) (v : Bool) (is-v : v ≡ some fours (a ∷ b ∷ c ∷ d ∷ [])) where
         pub four_bytes : v ≡ true → 4 ≡ sequence (drop at s)
-        four_bytes h = sym (sequence-is ∙ rw (lt-leb a 0x7_f not-one, ← is-t, not-two, ← is-u, not_three, ← is-v, h))
+        four_bytes h = sym (sequence-is ∙ rw (lt-leb a 0x7F not-one, ← is-t, not-two, ← is-u, not_three, ← is-v, h))
 
         pub no_bytes : v ≡ false → 0 ≡ sequence (drop at s)
-        no_bytes h = sym (sequence-is ∙ rw (lt-leb a 0x7_f not-one, ← is-t, not-two, ← is-u, not_three, ← is-v, h))
+        no_bytes h = sym (sequence-is ∙ rw (lt-leb a 0x7F not-one, ← is-t, not-two, ← is-u, not_three, ← is-v, h))
 
 -- ---- a sequence lies within what it begins
 

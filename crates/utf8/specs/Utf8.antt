@@ -11,28 +11,28 @@ abbrev pub range : ℕ → ℕ → Range
 range a b = record { from = a; to = b }
 
 abbrev pub tail : Range
-tail = range 0x80 0x_bf
+tail = range 0x80 0xBF
 
 -- the rows of the table, a range for each byte of a sequence: of one byte, two, three and four
 abbrev pub ones : List (List Range)
-ones = (range 0x00 0x7_f ∷ []) ∷ []
+ones = (range 0x00 0x7F ∷ []) ∷ []
 
 abbrev pub twos : List (List Range)
-twos = (range 0x_c2 0x_df ∷ tail ∷ []) ∷ []
+twos = (range 0xC2 0xDF ∷ tail ∷ []) ∷ []
 
 abbrev pub threes : List (List Range)
 threes =
-    (range 0x_e0 0x_e0 ∷ range 0x_a0 0x_bf ∷ tail ∷ [])
-    ∷ (range 0x_e1 0x_ec ∷ tail ∷ tail ∷ [])
-    ∷ (range 0x_ed 0x_ed ∷ range 0x80 0x9_f ∷ tail ∷ [])
-    ∷ (range 0x_ee 0x_ef ∷ tail ∷ tail ∷ [])
+    (range 0xE0 0xE0 ∷ range 0xA0 0xBF ∷ tail ∷ [])
+    ∷ (range 0xE1 0xEC ∷ tail ∷ tail ∷ [])
+    ∷ (range 0xED 0xED ∷ range 0x80 0x9F ∷ tail ∷ [])
+    ∷ (range 0xEE 0xEF ∷ tail ∷ tail ∷ [])
     ∷ []
 
 abbrev pub fours : List (List Range)
 fours =
-    (range 0x_f0 0x_f0 ∷ range 0x90 0x_bf ∷ tail ∷ tail ∷ [])
-    ∷ (range 0x_f1 0x_f3 ∷ tail ∷ tail ∷ tail ∷ [])
-    ∷ (range 0x_f4 0x_f4 ∷ range 0x80 0x8_f ∷ tail ∷ tail ∷ [])
+    (range 0xF0 0xF0 ∷ range 0x90 0xBF ∷ tail ∷ tail ∷ [])
+    ∷ (range 0xF1 0xF3 ∷ tail ∷ tail ∷ tail ∷ [])
+    ∷ (range 0xF4 0xF4 ∷ range 0x80 0x8F ∷ tail ∷ tail ∷ [])
     ∷ []
 
 -- whether bytes begin with a sequence of the row

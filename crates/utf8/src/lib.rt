@@ -6,11 +6,11 @@ ghost use Rattle.utf8.specs.Utf8.{twos, threes, fours, some, sequence, utf8};
 const NO_BYTE: u16 = 256;
 
 // The last byte that is a sequence by itself, and the bytes that go on with a longer one.
-const LAST_SINGLE: u16 = 0x7_f;
+const LAST_SINGLE: u16 = 0x7F;
 
 const TAIL_FIRST: u16 = 0x80;
 
-const TAIL_LAST: u16 = 0x_bf;
+const TAIL_LAST: u16 = 0xBF;
 
 // The byte at a place.
 fn byte_or_none(s: &[u8], at: usize) -> u16
@@ -23,7 +23,7 @@ fn byte_or_none(s: &[u8], at: usize) -> u16
 fn is_two(a: u16, b: u16) -> bool
     ensures { result ≡ some twos (a ∷ b ∷ []) }
 {
-    (0x_c2 <= a) & (a <= 0x_df) & (TAIL_FIRST <= b) & (b <= TAIL_LAST)
+    (0xC2 <= a) & (a <= 0xDF) & (TAIL_FIRST <= b) & (b <= TAIL_LAST)
 }
 
 // The rows of three bytes: no overlong form after E0, no surrogate after ED.
@@ -32,10 +32,10 @@ fn is_three(a: u16, b: u16, c: u16) -> bool
 {
     let tb = (TAIL_FIRST <= b) & (b <= TAIL_LAST);
     let tc = (TAIL_FIRST <= c) & (c <= TAIL_LAST);
-    let overlong = (0x_e0 <= a) & (a <= 0x_e0) & (0x_a0 <= b) & (b <= TAIL_LAST) & tc;
-    let low = (0x_e1 <= a) & (a <= 0x_ec) & tb & tc;
-    let surrogate = (0x_ed <= a) & (a <= 0x_ed) & (TAIL_FIRST <= b) & (b <= 0x9_f) & tc;
-    let high = (0x_ee <= a) & (a <= 0x_ef) & tb & tc;
+    let overlong = (0xE0 <= a) & (a <= 0xE0) & (0xA0 <= b) & (b <= TAIL_LAST) & tc;
+    let low = (0xE1 <= a) & (a <= 0xEC) & tb & tc;
+    let surrogate = (0xED <= a) & (a <= 0xED) & (TAIL_FIRST <= b) & (b <= 0x9F) & tc;
+    let high = (0xEE <= a) & (a <= 0xEF) & tb & tc;
     overlong | low | surrogate | high
 }
 
@@ -46,9 +46,9 @@ fn is_four(a: u16, b: u16, c: u16, d: u16) -> bool
     let tb = (TAIL_FIRST <= b) & (b <= TAIL_LAST);
     let tc = (TAIL_FIRST <= c) & (c <= TAIL_LAST);
     let td = (TAIL_FIRST <= d) & (d <= TAIL_LAST);
-    let overlong = (0x_f0 <= a) & (a <= 0x_f0) & (0x90 <= b) & (b <= TAIL_LAST) & tc & td;
-    let middle = (0x_f1 <= a) & (a <= 0x_f3) & tb & tc & td;
-    let last = (0x_f4 <= a) & (a <= 0x_f4) & (TAIL_FIRST <= b) & (b <= 0x8_f) & tc & td;
+    let overlong = (0xF0 <= a) & (a <= 0xF0) & (0x90 <= b) & (b <= TAIL_LAST) & tc & td;
+    let middle = (0xF1 <= a) & (a <= 0xF3) & tb & tc & td;
+    let last = (0xF4 <= a) & (a <= 0xF4) & (TAIL_FIRST <= b) & (b <= 0x8F) & tc & td;
     overlong | middle | last
 }
 

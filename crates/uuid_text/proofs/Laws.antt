@@ -48,13 +48,13 @@ module _ (b : ℕ) where
 -- ---- number: from its first byte
 
 module _ (hex : List ℕ) (at end : ℕ) (h : at < end) (k : end ≤ length hex) where
-  after_plus : get_or hex at 0 ≡ 0x2_b → slice (at + 1) end hex ≡ unsigned (slice at end hex)
+  after_plus : get_or hex at 0 ≡ 0x2B → slice (at + 1) end hex ≡ unsigned (slice at end hex)
   unfolding unsigned
-  after_plus e = rw (slice-cons at end hex 0 h k, eq-eqb (get_or hex at 0) 0x2_b e, add-one at)
+  after_plus e = rw (slice-cons at end hex 0 h k, eq-eqb (get_or hex at 0) 0x2B e, add-one at)
 
-  no_plus : (get_or hex at 0 ≡ 0x2_b → ⊥) → slice at end hex ≡ unsigned (slice at end hex)
+  no_plus : (get_or hex at 0 ≡ 0x2B → ⊥) → slice at end hex ≡ unsigned (slice at end hex)
   unfolding unsigned
-  no_plus e = rw (slice-cons at end hex 0 h k, ne_eqb (get_or hex at 0) 0x2_b e)
+  no_plus e = rw (slice-cons at end hex 0 h k, ne_eqb (get_or hex at 0) 0x2B e)
 
   -- a digit more
   module _ (d : ℕ) (e : d ≡ digit_of (get_or hex at 0)) where
@@ -80,7 +80,7 @@ small v i n h k = lt_of_lt_of_le h (pow-le-pow_right {n = 16} (omega arith) k)
 some_left : (s : List ℕ) → 2 ≤ length s → 0 < length (unsigned s)
 unfolding unsigned
 some_left [] h = omega arith
-some_left (b ∷ s) h = go (eqb b 0x2_b)
+some_left (b ∷ s) h = go (eqb b 0x2B)
   where
     go : (t : Bool) → 0 < length (pick t s (b ∷ s))
     go true = omega arith
@@ -109,10 +109,10 @@ start hex at end i h k e =
     record { from = h; upto = k; small = z; digits = ap all_digits e; value = ap (value_of 0) e }
 
 module _ (hex : List ℕ) (at end i : ℕ) (h : at < end) (k : end ≤ length hex) where
-  pub start-plus : get_or hex at 0 ≡ 0x2_b → i ≡ at + 1 → Reading hex at end i 0
+  pub start-plus : get_or hex at 0 ≡ 0x2B → i ≡ at + 1 → Reading hex at end i 0
   start-plus p e = start hex at end i (omega arith) (omega arith) (rw e (after_plus hex at end h k p))
 
-  pub start-bare : (get_or hex at 0 ≡ 0x2_b → ⊥) → i ≡ at → Reading hex at end i 0
+  pub start-bare : (get_or hex at 0 ≡ 0x2B → ⊥) → i ≡ at → Reading hex at end i 0
   start-bare p e = start hex at end i (omega arith) (omega arith) (rw e (no_plus hex at end h k p))
 
   module _ (v d : ℕ) (r : Reading hex at end i v) (l : i < end) (e : d ≡ digit_of (get_or hex i 0)) where
@@ -159,7 +159,7 @@ value-bound v (b ∷ s) e =
 unsigned-length : (s : List ℕ) → length (unsigned s) ≤ length s
 unfolding unsigned
 unsigned-length [] = omega arith
-unsigned-length (b ∷ s) = go (eqb b 0x2_b)
+unsigned-length (b ∷ s) = go (eqb b 0x2B)
   where
     go : (t : Bool) → length (pick t s (b ∷ s)) ≤ suc (length s)
     go true = omega arith
@@ -310,15 +310,15 @@ module _ (hex : List ℕ) (low high i v : ℕ) (h : length hex ≡ 32) (w : Half
 abbrev pub kept : List ℕ → ℕ → List ℕ → ℕ → List ℕ
 kept hex n s i = take n hex ++ plain (drop i s)
 
-pub kept-one : (hex s : List ℕ) (n i : ℕ) → n < length hex → i < length s → (get_or s i 0 ≡ 0x2_d → ⊥) → kept hex n s i ≡ kept (set hex n (get_or s i 0)) (n + 1) s (i + 1)
+pub kept-one : (hex s : List ℕ) (n i : ℕ) → n < length hex → i < length s → (get_or s i 0 ≡ 0x2D → ⊥) → kept hex n s i ≡ kept (set hex n (get_or s i 0)) (n + 1) s (i + 1)
 unfolding plain
 kept-one hex s n i p q h =
-    rw (drop-cons s i 0 q, ne_eqb (get_or s i 0) 0x2_d h, add-one n, add-one i, take-suc-set hex n (get_or s i 0) p)
+    rw (drop-cons s i 0 q, ne_eqb (get_or s i 0) 0x2D h, add-one n, add-one i, take-suc-set hex n (get_or s i 0) p)
     (sym (append_snoc (take n hex) (get_or s i 0) (plain (drop (suc i) s))))
 
-pub kept-none : (hex s : List ℕ) (n i : ℕ) → i < length s → get_or s i 0 ≡ 0x2_d → kept hex n s i ≡ kept hex n s (i + 1)
+pub kept-none : (hex s : List ℕ) (n i : ℕ) → i < length s → get_or s i 0 ≡ 0x2D → kept hex n s i ≡ kept hex n s (i + 1)
 unfolding plain
-kept-none hex s n i q h = rw (drop-cons s i 0 q, eq-eqb (get_or s i 0) 0x2_d h, add-one i)
+kept-none hex s n i q h = rw (drop-cons s i 0 q, eq-eqb (get_or s i 0) 0x2D h, add-one i)
 
 -- at the end of the text
 pub kept-all : (hex s : List ℕ) (n i : ℕ) → length s ≤ i → n ≤ 32 → kept hex n s i ≡ plain s → Stripped s n hex
@@ -328,11 +328,11 @@ kept-all hex s n i h p e =
     record { whole = λ _. sym e ∙ t; more = λ q. omega arith }
 
 -- a byte too many
-pub kept-over : (hex s : List ℕ) (n i : ℕ) → n ≡ 32 → length hex ≡ 32 → i < length s → (get_or s i 0 ≡ 0x2_d → ⊥) → kept hex n s i ≡ plain s → Stripped s 33 hex
+pub kept-over : (hex s : List ℕ) (n i : ℕ) → n ≡ 32 → length hex ≡ 32 → i < length s → (get_or s i 0 ≡ 0x2D → ⊥) → kept hex n s i ≡ plain s → Stripped s 33 hex
 unfolding plain
 kept-over hex s n i z p q h e =
     let l : length (kept hex n s i) ≡ 32 + suc (length (plain (drop (suc i) s)))
-    = rw (drop-cons s i 0 q, ne_eqb (get_or s i 0) 0x2_d h, length-append, length-take-le n hex (omega arith), z) in
+    = rw (drop-cons s i 0 q, ne_eqb (get_or s i 0) 0x2D h, length-append, length-take-le n hex (omega arith), z) in
     record { whole = λ k. absurd (omega arith); more = λ _. omega (arith, ap length e) }
 
 -- ---- parse

@@ -23,7 +23,7 @@ value_of v (b ∷ s) = value_of (16 * v + digit_of b) s
 -- without a plus in front: Rust's number reading takes one there
 unfoldable pub unsigned : List ℕ → List ℕ
 unsigned [] = []
-unsigned (b ∷ s) = pick (eqb b 0x2_b) s (b ∷ s)
+unsigned (b ∷ s) = pick (eqb b 0x2B) s (b ∷ s)
 
 -- whether bytes are a number, and which
 abbrev pub is_number : List ℕ → Bool
@@ -57,7 +57,7 @@ long_uuid s = pick (all_numbers (pairs s)) (Is (of_num (bytes_of 0 (pairs s)))) 
 -- without hyphens
 unfoldable pub plain : List ℕ → List ℕ
 plain [] = []
-plain (b ∷ s) = pick (eqb b 0x2_d) (plain s) (b ∷ plain s)
+plain (b ∷ s) = pick (eqb b 0x2D) (plain s) (b ∷ plain s)
 
 unfoldable pub parse_uuid : List ℕ → Read
 parse_uuid s =

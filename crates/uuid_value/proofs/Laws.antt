@@ -88,7 +88,7 @@ abbrev pub zeros : List ℕ
 zeros = replicate 16 0
 
 module _ (u : Uuid) (h : u.low < 2 ^ 64) where
-  pub not_low : (u.low ≡ 0x8000_0080_5_f9_b_34_fb → ⊥) → Short (num u) → ⊥
+  pub not_low : (u.low ≡ 0x8000_0080_5F9B_34FB → ⊥) → Short (num u) → ⊥
   not_low n b = n (omega (arith, b.same))
 
   pub not-high : (u.high % 2 ^ 32 ≡ 0x1000 → ⊥) → Short (num u) → ⊥
@@ -97,7 +97,7 @@ module _ (u : Uuid) (h : u.low < 2 ^ 64) where
   pub not-small : 2 ^ 16 ≤ u.high / 2 ^ 32 → Short (num u) → ⊥
   not-small n b = omega (arith, b.same, b.small)
 
-  pub write_two : (b : List ℕ) → u.low ≡ 0x8000_0080_5_f9_b_34_fb → u.high % 2 ^ 32 ≡ 0x1000 → u.high / 2 ^ 32 < 2 ^ 16
+  pub write_two : (b : List ℕ) → u.low ≡ 0x8000_0080_5F9B_34FB → u.high % 2 ^ 32 ≡ 0x1000 → u.high / 2 ^ 32 < 2 ^ 16
       → b ≡ paste zeros 0 (le_bytes 2 (u.high / 2 ^ 32)) 2 → record { len = 2; bytes = b } ≡ att_of (num u)
   unfolding le_bytes
   write_two b p q r e =

@@ -9,7 +9,7 @@ use Rattle.uuid_value.specs.declared.Att.{Att}
 
 -- the Bluetooth Base UUID, 00000000-0000-1000-8000-00805F9B34FB
 abbrev pub base_uuid : ℕ
-base_uuid = 0x0000_0000_0000_1000_8000_0080_5_f9_b_34_fb
+base_uuid = 0x0000_0000_0000_1000_8000_0080_5F9B_34FB
 
 -- the 128-bit number that the two halves make
 abbrev pub num : Uuid → ℕ

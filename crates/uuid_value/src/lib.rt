@@ -26,7 +26,7 @@ pub struct Att {
 }
 
 // The halves of the Base UUID, 00000000-0000-1000-8000-00805F9B34FB.
-const BASE_LOW: u64 = 0x8000_0080_5_f9_b_34_fb;
+const BASE_LOW: u64 = 0x8000_0080_5F9B_34FB;
 
 const BASE_HIGH: u64 = 0x1000;
 
