@@ -1,4 +1,6 @@
 // The search of advertising data for a service: Core Vol 3 Part C 11, Core Supplement Part A 1.1.
+#![tactic(auto)]
+
 ghost use Rattle.std.specs.Prelude.{◌≡◌, ◌+◌, ◌≤◌, ◌<◌, length, take, drop, eqb};
 ghost use Rattle.uuid_value.specs.Value.{num};
 ghost use Rattle.bytes_base.specs.Choice.{pick};
@@ -8,7 +10,7 @@ ghost use Rattle.adv_data.specs.Answers.{incomplete, sought_in};
 use uuid_value::Uuid;
 
 // Where the body of a structure stands: its start, and how many bytes it has.
-#[derive(Drop)]
+#[derive(Clone, Copy)]
 pub enum Place {
     Body(usize, usize),
     Nothing,
@@ -16,7 +18,7 @@ pub enum Place {
 
 // What data tells of a service: where the body of the first structure stands that lists it, its start and how many bytes it has; that
 // it is not offered; or neither, since a list is incomplete or the data is cut.
-#[derive(Drop)]
+#[derive(Clone, Copy)]
 pub enum Sought {
     Listed(usize, usize),
     Absent,

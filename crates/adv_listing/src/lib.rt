@@ -1,4 +1,6 @@
 // Whether advertising data lists a service, and the body of the structure that does: Core Supplement Part A 1.1.
+#![tactic(auto)]
+
 ghost use Rattle.std.specs.Prelude.{◌≡◌};
 ghost use Rattle.uuid_value.specs.Value.{num};
 ghost use Rattle.adv_data.specs.Ad.{lists_service};

@@ -1,4 +1,6 @@
 // The local name in advertising data: Core Supplement Part A 1.2.
+#![tactic(auto)]
+
 ghost use Rattle.std.specs.Prelude.{◌≡◌};
 ghost use Rattle.adv_name.specs.Name.{local_name};
 

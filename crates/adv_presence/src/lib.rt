@@ -1,4 +1,6 @@
 // What the advertising data and the scan response of an advertiser tell of a service, three ways (02, Five).
+#![tactic(auto)]
+
 ghost use Rattle.std.specs.Prelude.{◌≡◌};
 ghost use Rattle.uuid_value.specs.Value.{num};
 ghost use Rattle.adv_presence.specs.Presences.{presence_of, either, presence_in, presence_number};
@@ -7,7 +9,7 @@ use adv_data::Sought;
 use uuid_value::Uuid;
 
 // Not offered; offered; or neither can be told, since a list is incomplete or the data is cut.
-#[derive(Drop)]
+#[derive(Clone, Copy)]
 pub enum Presence {
     Absent,
     Listed,

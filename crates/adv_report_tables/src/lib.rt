@@ -1,4 +1,6 @@
 // One report among the tables: at its place i, or at the last where there is none and the oldest goes.
+#![tactic(auto)]
+
 ghost use Rattle.std.specs.Prelude.{◌≡◌, ◌≤◌};
 ghost use Rattle.adv_reports.specs.Reports.{last_place};
 ghost use Rattle.adv_report_tables.specs.Tables.{block_at, counted};

@@ -1,4 +1,6 @@
 // The reports that are kept: advertisers by their numbers, report bytes in the lent store.
+#![tactic(auto)]
+
 ghost use Rattle.std.specs.Prelude.{◌≡◌, ◌&&◌, ◌≤◌, ◌<◌};
 ghost use Rattle.state_places.specs.Sizes.{most_reports};
 ghost use Rattle.lists.specs.Blocks.{lowered};

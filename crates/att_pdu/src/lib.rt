@@ -1,5 +1,7 @@
 // ATT PDUs of a fixed length, each built whole; those with a range of handles stand in att_requests. A PDU with a value is
 // written where it goes: l2cap::att_frame.
+#![tactic(auto)]
+
 ghost use Rattle.std.specs.Prelude.{◌≡◌, ◌∷◌};
 ghost use Rattle.bytes_base.specs.Bytes.{le_bytes};
 ghost use Rattle.att_pdu.specs.Pdu.{

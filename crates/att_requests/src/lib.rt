@@ -1,4 +1,6 @@
 // ATT requests of a range of handles, each built whole.
+#![tactic(auto)]
+
 ghost use Rattle.std.specs.Prelude.{◌≡◌, ◌∷◌, ◌++◌};
 ghost use Rattle.bytes_base.specs.Bytes.{le_bytes};
 ghost use Rattle.att_pdu.specs.Pdu.{find_information_req, read_by_type_req, read_by_group_type_req};

@@ -1,4 +1,6 @@
 // The one test of a place in bytes.
+#![tactic(auto)]
+
 ghost use Rattle.std.specs.Prelude.{◌≡◌, ◌+◌, leb};
 
 // Whether the n bytes from at on lie within len; at + n may be more than a usize holds.

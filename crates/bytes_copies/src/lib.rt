@@ -1,4 +1,6 @@
 // Copies of bytes into a lent slice and within one.
+#![tactic(auto)]
+
 ghost use Rattle.std.specs.Prelude.{◌≡◌, ◌+◌, ◌≤◌, length, ◌⊎◌};
 ghost use Rattle.bytes_base.specs.Splice.{splice, moved};
 

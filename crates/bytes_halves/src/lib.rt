@@ -1,4 +1,6 @@
 // The two bytes of a number.
+#![tactic(auto)]
+
 ghost use Rattle.std.specs.Prelude.{◌≡◌, ◌/◌, ◌%◌};
 
 // The less significant byte of a number.

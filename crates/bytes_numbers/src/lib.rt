@@ -1,4 +1,6 @@
 // Numbers in bytes, the least significant first.
+#![tactic(auto)]
+
 ghost use Rattle.std.specs.Prelude.{◌≡◌, ◌+◌, ◌≤◌, ◌<◌, ◌^◌, length};
 ghost use Rattle.bytes_base.specs.Bytes.{le_at};
 

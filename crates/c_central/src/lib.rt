@@ -1,5 +1,7 @@
 // What C calls: everything is the caller's, in words and bytes. `&mut [u64; N]` is a pointer, `&[u8]` a pointer and a length.
 // A call decodes the core, does its work on the lent tables, and gives its answer back in words.
+#![tactic(auto)]
+
 ghost use Rattle.std.specs.Prelude.{◌≡◌, length};
 ghost use Rattle.adv_reports.specs.Key.{address_of};
 ghost use Rattle.uuid_value.specs.Value.{num};

@@ -1,4 +1,6 @@
 // A core in words that C owns, one field a word: any words are a core, and a core put into words is read again.
+#![tactic(auto)]
+
 ghost use Rattle.std.specs.Prelude.{◌≡◌, ◌%◌};
 ghost use Rattle.words.specs.Words.{two16, two32};
 ghost use Rattle.c_core.specs.Layout.{flag_in, flat_in, running_in, bearer_in, counters_in, counts_in, options_in, core_in};

@@ -1,5 +1,7 @@
 // What C calls of the serial transport: a stream is two words and 1,024 bytes that C owns, and each call gives its answer in words.
 // `&mut [u64; N]` is a pointer, `&[u8]` a pointer and a length.
+#![tactic(auto)]
+
 ghost use Rattle.std.specs.Prelude.{◌≡◌, [], ◌∷◌};
 ghost use Rattle.h4_packets.specs.Packet.{packet_length};
 ghost use Rattle.h4_stream.specs.Feed.{feeding};

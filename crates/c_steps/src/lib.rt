@@ -1,4 +1,6 @@
 // A batch of steps in words that C lends, 12 words a step. A word that is not lent is 0.
+#![tactic(auto)]
+
 ghost use Rattle.std.specs.Prelude.{◌≡◌, ◌%◌, ◌≤◌, get_or};
 ghost use Rattle.words.specs.Words.{two16, two32};
 ghost use Rattle.c_core.specs.Layout.{flag_in};

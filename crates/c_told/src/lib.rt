@@ -1,4 +1,6 @@
 // What a call tells C, in words: its refusal, then the numbers of its answer. Words that an answer does not use are 0.
+#![tactic(auto)]
+
 ghost use Rattle.std.specs.Prelude.{◌≡◌};
 ghost use Rattle.radio_sights.specs.View.{span_of};
 ghost use Rattle.c_told.specs.Told.{answer_words, refusal_words, advertised_words};

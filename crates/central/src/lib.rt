@@ -1,4 +1,6 @@
 // The calls of a central on a state that goes in by value and comes back: each lends its tables to the call of the same name.
+#![tactic(auto)]
+
 ghost use Rattle.std.specs.Prelude.{◌≡◌, length};
 ghost use Rattle.script_rules.specs.Batch.{push_steps};
 ghost use Rattle.script_rules.specs.Events.{on_timer, on_connected, on_disconnected};
@@ -16,14 +18,14 @@ use time::Micros;
 
 pub mod fresh;
 
-#[derive(Drop)]
+#[derive(Clone, Copy)]
 pub struct State {
     pub core: Core,
     pub tables: [u64; 1152],
 }
 
 // The answer of a call that may send. A refusal of 0 is none.
-#[derive(Drop)]
+#[derive(Clone, Copy)]
 pub struct Answer {
     pub state: State,
     pub refusal: u8,
@@ -31,14 +33,14 @@ pub struct Answer {
 }
 
 // The answer of a call that sends nothing.
-#[derive(Drop)]
+#[derive(Clone, Copy)]
 pub struct QuietAnswer {
     pub state: State,
     pub refusal: u8,
 }
 
 // The answer of an advertising call.
-#[derive(Drop)]
+#[derive(Clone, Copy)]
 pub struct Advertised {
     pub state: State,
     pub refusal: u8,

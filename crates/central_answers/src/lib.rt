@@ -1,4 +1,6 @@
 // What every call on lent tables gives: the core that it leaves, its refusal, and what it sent.
+#![tactic(auto)]
+
 ghost use Rattle.std.specs.Prelude.{◌≡◌, List, ℕ};
 ghost use Rattle.script_rules.specs.Outcome.{begins, done, refused, quietly, quietly_refused};
 ghost use Rattle.state_core.specs.Reading.{central, held, world};
@@ -9,7 +11,7 @@ use state_core::{Core, Turn};
 use state_refusals::refusal;
 
 // The answer of a call that may send. A refusal of 0 is none.
-#[derive(Drop)]
+#[derive(Clone, Copy)]
 pub struct Answer {
     pub core: Core,
     pub refusal: u8,
@@ -17,7 +19,7 @@ pub struct Answer {
 }
 
 // The answer of a call that sends nothing.
-#[derive(Drop)]
+#[derive(Clone, Copy)]
 pub struct QuietAnswer {
     pub core: Core,
     pub refusal: u8,

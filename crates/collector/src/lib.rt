@@ -1,5 +1,7 @@
 // What the collector, a C program, calls: the service search and the connection parameter test, on numbers and bytes.
-// include/barleyrope.h declares them for C, where a `&[u8]` is a pointer and a length.
+// The crate collector_c exports them.
+#![tactic(auto)]
+
 ghost use Rattle.std.specs.Prelude.{◌≡◌, ◌+◌, ◌*◌, ◌^◌};
 ghost use Rattle.adv_data.specs.Ad.{listed_place, lists_service};
 ghost use Rattle.adv_presence.specs.Presences.{presence_in, presence_number};
@@ -10,16 +12,14 @@ use adv_data::Place;
 use uuid_value::Uuid;
 
 // Whether some structure of the data lists the service.
-#[unsafe(no_mangle)]
-pub extern "C" fn barleyrope_lists_service(data: &[u8], low: u64, high: u64) -> bool
+pub fn barleyrope_lists_service(data: &[u8], low: u64, high: u64) -> bool
     ensures { result ≡ lists_service (low + 2 ^ 64 * high) «data».now }
 {
     adv_listing::ad_lists_service(data, Uuid { low, high })
 }
 
 // Where the body of the first structure that lists the service stands; both places keep what they held where none does.
-#[unsafe(no_mangle)]
-pub extern "C" fn barleyrope_find_service(
+pub fn barleyrope_find_service(
     data: &[u8],
     low: u64,
     high: u64,
@@ -41,13 +41,7 @@ pub extern "C" fn barleyrope_find_service(
 }
 
 // What the advertising data and the scan response of an advertiser tell of the service: 0 absent, 1 listed, 2 unknown.
-#[unsafe(no_mangle)]
-pub extern "C" fn barleyrope_service_presence(
-    data: &[u8],
-    response: &[u8],
-    low: u64,
-    high: u64,
-) -> u32
+pub fn barleyrope_service_presence(data: &[u8], response: &[u8], low: u64, high: u64) -> u32
     ensures { result ≡ presence_number (presence_in (low + 2 ^ 64 * high) «data».now response.now) }
 {
     let uuid = Uuid { low, high };
@@ -55,8 +49,7 @@ pub extern "C" fn barleyrope_service_presence(
 }
 
 // Whether the four numbers of a connection parameter update request are acceptable.
-#[unsafe(no_mangle)]
-pub extern "C" fn barleyrope_params_good(min: u16, max: u16, latency: u16, timeout: u16) -> bool
+pub fn barleyrope_params_good(min: u16, max: u16, latency: u16, timeout: u16) -> bool
     ensures { result ≡ good_params min max latency timeout }
 {
     l2cap_params::params_good(min, max, latency, timeout)

@@ -1,4 +1,6 @@
 // Characteristics that a peer's answers tell of (Core Vol 3 Part G 3.3.1, 4.6.1): a table of 64 records by value, rising by declaration.
+#![tactic(auto)]
+
 ghost use Rattle.std.specs.Prelude.{◌≡◌, ◌+◌, ◌≤◌, length};
 ghost use Rattle.state_places.specs.Sizes.{most_characteristics};
 ghost use Rattle.lists.specs.Cut.{entries, part};
@@ -8,13 +10,13 @@ use state_places::MAX_CHARACTERISTICS;
 use uuid_value::Uuid;
 
 // Where the Client Characteristic Configuration descriptor stands, once it is known.
-#[derive(Drop)]
+#[derive(Clone, Copy)]
 pub enum Cccd {
     Unknown,
     At(u16),
 }
 
-#[derive(Drop)]
+#[derive(Clone, Copy)]
 pub struct Characteristic {
     pub declaration: u16,
     pub properties: u8,
@@ -24,21 +26,21 @@ pub struct Characteristic {
 }
 
 // The first count of kept are known. The rest is dead.
-#[derive(Drop)]
+#[derive(Clone, Copy)]
 pub struct Characteristics {
     pub kept: [Characteristic; 64],
     pub count: usize,
 }
 
 // A characteristic, or none.
-#[derive(Drop)]
+#[derive(Clone, Copy)]
 pub enum Which {
     At(Characteristic),
     Nothing,
 }
 
 // The table after an answer, the declaration of the last entry read, and whether an entry had no place.
-#[derive(Drop)]
+#[derive(Clone, Copy)]
 pub struct Found {
     pub table: Characteristics,
     pub last: u16,

@@ -1,4 +1,6 @@
 // Descriptors of characteristics: which handles to ask for, and where a CCCD belongs (Core Vol 3 Part G 4.7.1).
+#![tactic(auto)]
+
 ghost use Rattle.std.specs.Prelude.{◌≡◌, ◌+◌, ◌≤◌, length};
 ghost use Rattle.state_places.specs.Sizes.{most_characteristics};
 ghost use Rattle.lists.specs.Cut.{entries, part};
@@ -9,14 +11,14 @@ use gatt_characteristics::{Cccd, Characteristic, Characteristics};
 use uuid_value::Uuid;
 
 // The handles of one request, or none.
-#[derive(Drop)]
+#[derive(Clone, Copy)]
 pub enum Range {
     Nothing,
     Is(u16, u16),
 }
 
 // The table after an answer, and the handle after the last one that it names. 65,536 is past all handles.
-#[derive(Drop)]
+#[derive(Clone, Copy)]
 pub struct Named {
     pub table: Characteristics,
     pub next: u32,

@@ -1,4 +1,6 @@
 // Services that a peer's answers tell of (Core Vol 3 Part G 4.4.1): a table of 32 records by value.
+#![tactic(auto)]
+
 ghost use Rattle.std.specs.Prelude.{◌≡◌, ◌+◌, ◌≤◌, length};
 ghost use Rattle.state_places.specs.Sizes.{most_services};
 ghost use Rattle.lists.specs.Cut.{entries, part};
@@ -7,7 +9,7 @@ ghost use Rattle.gatt_services.specs.Service.{told, services_taken};
 use state_places::MAX_SERVICES;
 use uuid_value::Uuid;
 
-#[derive(Drop)]
+#[derive(Clone, Copy)]
 pub struct Service {
     pub start: u16,
     pub end: u16,
@@ -15,21 +17,21 @@ pub struct Service {
 }
 
 // The first count of kept are known. The rest is dead.
-#[derive(Drop)]
+#[derive(Clone, Copy)]
 pub struct Services {
     pub kept: [Service; 32],
     pub count: usize,
 }
 
 // A service, or none.
-#[derive(Drop)]
+#[derive(Clone, Copy)]
 pub enum Which {
     At(Service),
     Nothing,
 }
 
 // The table after an answer, the end handle of the last entry read, and whether an entry had no place.
-#[derive(Drop)]
+#[derive(Clone, Copy)]
 pub struct Found {
     pub table: Services,
     pub last: u16,

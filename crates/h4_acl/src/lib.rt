@@ -1,4 +1,6 @@
 // An ACL packet taken apart, and the fragment call that it makes.
+#![tactic(auto)]
+
 ghost use Rattle.std.specs.Prelude.{◌≡◌, ◌+◌};
 ghost use Rattle.h4_acl.specs.Acl.{parts_of, acl_data, acl_at, by_flag, fragment_of, fragment_data, fragment_at};
 
@@ -6,14 +8,14 @@ use h4_builders::boundary;
 use h4_packets::indicator;
 
 // A split packet: handle, boundary flag, and where its data stands: place and length.
-#[derive(Drop)]
+#[derive(Clone, Copy)]
 pub enum Parts {
     Acl(u16, u8, usize, usize),
     Nothing,
 }
 
 // What a packet is to a connection: a fragment, with the place and the length of its data, or nothing.
-#[derive(Drop)]
+#[derive(Clone, Copy)]
 pub enum Fragment {
     Start(usize, usize),
     Continuation(usize, usize),

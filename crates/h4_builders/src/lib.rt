@@ -1,5 +1,7 @@
 // H4 packets written to the front of a lent output: ACL data, and the events of a controller.
 // A refused builder writes nothing; the bytes behind a packet stay as they were.
+#![tactic(auto)]
+
 ghost use Rattle.std.specs.Prelude.{◌≡◌, [], ◌∷◌, ◌+◌, ◌*◌, ◌≤◌, length, leb, eqb};
 ghost use Rattle.bytes_base.specs.Choice.{pick};
 ghost use Rattle.bytes_base.specs.Bytes.{le_bytes};
@@ -39,7 +41,7 @@ const STATUS_PARAMS: usize = 4;
 const PAIR: usize = 4;
 
 // What a builder answers: 0 and the packet's length, or a refusal and 0.
-#[derive(Drop)]
+#[derive(Clone, Copy)]
 pub struct Built {
     pub refusal: u8,
     pub len: usize,

@@ -1,4 +1,6 @@
 // What stands at the front of an H4 byte stream: packet indicators (Core Vol 4 Part A 2), headers and lengths (Part E 5.4).
+#![tactic(auto)]
+
 ghost use Rattle.std.specs.Prelude.{◌≡◌, ◌+◌, ◌≤◌, ◌<◌};
 ghost use Rattle.h4_packets.specs.Packet.{header_size, payload_size, packet_length};
 
@@ -6,7 +8,7 @@ pub mod indicator;
 pub mod refusal;
 
 // How many bytes the packet at the front takes, indicator and header counted.
-#[derive(Drop)]
+#[derive(Clone, Copy)]
 pub enum PacketLength {
     Unknown,
     Known(usize),
@@ -14,7 +16,7 @@ pub enum PacketLength {
 }
 
 // What a stream finds at its front.
-#[derive(Drop)]
+#[derive(Clone, Copy)]
 pub enum Front {
     More,
     Whole(usize),

@@ -1,4 +1,6 @@
 // An H4 byte stream cut into whole packets, with the bytes of an unfinished one held between feeds: hci.rs, H4Stream; 02, Three.
+#![tactic(auto)]
+
 ghost use Rattle.std.specs.Prelude.{◌≡◌, ◌++◌, ◌+◌, ◌-◌, ◌≤◌, ◌<◌, length, get_or, take, drop};
 ghost use Rattle.lists.specs.Queue.{onto};
 ghost use Rattle.h4_packets.specs.Numbers.{longest};
@@ -9,7 +11,7 @@ ghost use Rattle.h4_stream.specs.Feed.{fresh, in_hand, reached, refusal_of, answ
 use h4_packets::{Front, refusal};
 
 // How framing was lost, if it was.
-#[derive(Drop)]
+#[derive(Clone, Copy)]
 pub enum Lost {
     No,
     ByIndicator,
@@ -17,14 +19,14 @@ pub enum Lost {
 }
 
 // The bytes held are the first `count` of the 1,024 that are lent beside it.
-#[derive(Drop)]
+#[derive(Clone, Copy)]
 pub struct Stream {
     pub count: usize,
     pub lost: Lost,
 }
 
 // What a feed answers: how many packets are in the output, end to end, and in how many bytes. A refusal of 0 is none.
-#[derive(Drop)]
+#[derive(Clone, Copy)]
 pub struct Fed {
     pub stream: Stream,
     pub refusal: u8,
@@ -33,7 +35,7 @@ pub struct Fed {
 }
 
 // How far whole packets reach, and what comes behind them.
-#[derive(Drop)]
+#[derive(Clone, Copy)]
 struct Reach {
     packets: usize,
     len: usize,

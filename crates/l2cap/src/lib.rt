@@ -1,4 +1,6 @@
 // L2CAP basic frames, written into a lent output.
+#![tactic(auto)]
+
 ghost use Rattle.std.specs.Prelude.{◌≡◌, ◌&&◌, ◌∷◌, ◌++◌, ◌+◌, ◌≤◌, length, take, drop, leb};
 ghost use Rattle.bytes_base.specs.Bytes.{le_bytes};
 ghost use Rattle.bytes_base.specs.Splice.{splice};

@@ -1,4 +1,6 @@
 // The connection parameter rule of an LE connection parameter update.
+#![tactic(auto)]
+
 ghost use Rattle.std.specs.Prelude.{◌≡◌};
 ghost use Rattle.l2cap_params.specs.Params.{good_params};
 

@@ -1,4 +1,6 @@
 // What a central answers on the signaling and security manager channels.
+#![tactic(auto)]
+
 ghost use Rattle.std.specs.Prelude.{◌≡◌};
 ghost use Rattle.bytes_base.specs.Bytes.{le_bytes};
 ghost use Rattle.l2cap_signaling.specs.Answer.{command, silence, rejection, parameter_request, code_answer, signaling_answer, smp_answer};
@@ -24,7 +26,7 @@ const PAIRING_FAILED: u8 = 0x05;
 const PAIRING_NOT_SUPPORTED: u8 = 0x05;
 
 // New connection parameters for the link layer.
-#[derive(Drop)]
+#[derive(Clone, Copy)]
 pub enum Update {
     Nothing,
     To {
@@ -35,7 +37,7 @@ pub enum Update {
 }
 
 // The first len bytes go back on the signaling channel; none where len is 0.
-#[derive(Drop)]
+#[derive(Clone, Copy)]
 pub struct SignalingAnswer {
     pub len: usize,
     pub bytes: [u8; 6],
@@ -43,7 +45,7 @@ pub struct SignalingAnswer {
 }
 
 // The first len bytes go back on the security manager channel; none where len is 0.
-#[derive(Drop)]
+#[derive(Clone, Copy)]
 pub struct SmpAnswer {
     pub len: usize,
     pub bytes: [u8; 2],

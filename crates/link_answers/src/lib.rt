@@ -1,4 +1,6 @@
 // What a response does in one move: it is awaited no more, or it ends its step.
+#![tactic(auto)]
+
 ghost use Rattle.std.specs.Prelude.{◌≡◌, List, ℕ, ◌≤◌, eqb, length, get_or};
 ghost use Rattle.bytes_base.specs.Bytes.{le_at};
 ghost use Rattle.bytes_base.specs.Choice.{pick};

@@ -1,4 +1,6 @@
 // on_fragment: a fragment of a frame comes in; a whole frame goes by its channel, and the script goes on.
+#![tactic(auto)]
+
 ghost use Rattle.std.specs.Prelude.{◌≡◌, true, false, List, ℕ, ◌+◌, ◌≤◌, ◌<◌, length};
 ghost use Rattle.state_places.specs.Sizes.{frame_size};
 ghost use Rattle.state_rules.specs.Fit.{most_notified};

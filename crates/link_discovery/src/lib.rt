@@ -1,4 +1,6 @@
 // Discovery's answers: services, then the characteristics of a service, then their descriptors.
+#![tactic(auto)]
+
 ghost use Rattle.std.specs.Prelude.{◌≡◌, ◌≤◌};
 ghost use Rattle.gatt_services.specs.declared.Which.TheVariants as which-service;
 ghost use Rattle.link_rules.specs.Payload.{payload_size};

@@ -1,4 +1,6 @@
 // What an answer says by itself: whether it counts, the MTU of both sides, where its entries stand and how long they are.
+#![tactic(auto)]
+
 ghost use Rattle.std.specs.Prelude.{◌≡◌, ◌+◌, ◌-◌, ◌≤◌, max, length};
 ghost use Rattle.lists.specs.Blocks.{bytes};
 ghost use Rattle.state_rules.specs.Steps.{default_mtu};

@@ -1,4 +1,6 @@
 // Whether a fragment goes unheard, and what a held frame says of itself.
+#![tactic(auto)]
+
 ghost use Rattle.std.specs.Prelude.{◌≡◌, ◌+◌, ◌≤◌};
 ghost use Rattle.bytes_base.specs.Bytes.{le_at};
 ghost use Rattle.state_places.specs.Sizes.{held_at};

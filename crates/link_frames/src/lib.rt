@@ -1,4 +1,6 @@
 // What is held of a frame, and when a fragment is refused.
+#![tactic(auto)]
+
 ghost use Rattle.std.specs.Prelude.{◌≡◌, List, ℕ, ◌+◌, ◌≤◌, length};
 ghost use Rattle.state_places.specs.Sizes.{frame_size};
 ghost use Rattle.link_rules.specs.Fragment.{with_held, held_before, gathered, whole, held_fits, gate_fragment, refusing};

@@ -1,4 +1,6 @@
 // How many notifications and indications ever came.
+#![tactic(auto)]
+
 ghost use Rattle.std.specs.Prelude.{◌≡◌, ◌<◌};
 ghost use Rattle.state_counters.specs.Counters.{most_notified};
 ghost use Rattle.link_rules.specs.Notices.{noted};

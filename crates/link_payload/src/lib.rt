@@ -1,4 +1,6 @@
 // The frame that is held, once it is whole: its payload is read where it stands.
+#![tactic(auto)]
+
 ghost use Rattle.std.specs.Prelude.{◌≡◌, ◌+◌, ◌≤◌, length, get_or};
 ghost use Rattle.bytes_base.specs.Bytes.{le_at};
 ghost use Rattle.lists.specs.Blocks.{bytes};

@@ -1,4 +1,6 @@
 // What the running step has asked the peer for.
+#![tactic(auto)]
+
 ghost use Rattle.std.specs.Prelude.{◌≡◌};
 ghost use Rattle.link_questions.specs.Questions.{asked_in, asked_by};
 
@@ -6,14 +8,14 @@ use state::Step;
 use uuid_value::Uuid;
 
 // What services are looked for: all of them, or the one of a UUID for its characteristics.
-#[derive(Drop)]
+#[derive(Clone, Copy)]
 pub enum Goal {
     All,
     Of(Uuid),
 }
 
 // What the running step has asked for.
-#[derive(Drop)]
+#[derive(Clone, Copy)]
 pub enum Asked {
     Mtu(u16),
     Services(Goal),

@@ -1,4 +1,6 @@
 // The link record, lent and updated where it stands in its bearer. Each thin function has one by value above it, which every other caller uses.
+#![tactic(auto)]
+
 ghost use Rattle.std.specs.Prelude.{◌≡◌};
 ghost use Rattle.link_record.specs.Record.{new_link, agreed, awaiting, answered, terminated, with_link};
 

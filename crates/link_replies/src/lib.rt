@@ -1,4 +1,6 @@
 // What goes back to the peer for its MTU request, and what becomes of its notifications and indications.
+#![tactic(auto)]
+
 ghost use Rattle.std.specs.Prelude.{◌≡◌, List, ℕ, ◌≤◌, ◌<◌, max, min, length};
 ghost use Rattle.state_places.specs.Sizes.{value_size};
 ghost use Rattle.state_rules.specs.Steps.{default_mtu, most_mtu};

@@ -1,4 +1,6 @@
 // A response of the peer: what it is an answer to, and what the running step does with it (the Rust's `on_response`).
+#![tactic(auto)]
+
 ghost use Rattle.std.specs.Prelude.{◌≡◌, ◌≤◌};
 ghost use Rattle.link_rules.specs.Payload.{Reads, payload_size};
 ghost use Rattle.link_rules.specs.Able.{Able};

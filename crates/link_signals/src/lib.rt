@@ -1,4 +1,6 @@
 // What goes back to the peer on the signaling and security manager channels, and for a request that is not served.
+#![tactic(auto)]
+
 ghost use Rattle.std.specs.Prelude.{◌≡◌, List, ℕ, ◌+◌, ◌≤◌, ◌<◌, length};
 ghost use Rattle.lists.specs.Blocks.{bytes};
 ghost use Rattle.script_rules.specs.World.{told};

@@ -1,1 +1,2 @@
 // Lists, queues and blocks of bytes: definitions and their laws.
+#![tactic(auto)]

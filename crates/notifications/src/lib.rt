@@ -1,4 +1,6 @@
 // The notifications that are kept; their values stand in the lent store.
+#![tactic(auto)]
+
 ghost use Rattle.std.specs.Prelude.{◌≡◌, ◌++◌, ◌+◌, ◌≤◌, ◌<◌};
 ghost use Rattle.state_places.specs.Sizes.{held_at};
 ghost use Rattle.notifications.specs.Kept.{kept_value, skipped_of};
@@ -8,7 +10,7 @@ use state_places::{MAX_NOTIFICATIONS, MAX_VALUE, NOTIFICATIONS_AT};
 use time::{Micros, Millis};
 
 // A notification or an indication, with the number of the link that heard it; its value stands at its own place of the store.
-#[derive(Drop)]
+#[derive(Clone, Copy)]
 pub struct Notification {
     pub at: Micros,
     pub handle: u16,
@@ -18,14 +20,14 @@ pub struct Notification {
 }
 
 // How old a notification may be that a wait counts.
-#[derive(Drop)]
+#[derive(Clone, Copy)]
 pub enum Age {
     Any,
     Within(Millis),
 }
 
 // What a wait goes by: its handle and its age; whether there is a link, and its number; the time of the call.
-#[derive(Drop)]
+#[derive(Clone, Copy)]
 pub struct Wanted {
     pub handle: u16,
     pub age: Age,
@@ -35,7 +37,7 @@ pub struct Wanted {
 }
 
 // The newest notifications, the oldest first; those from count on are none.
-#[derive(Drop)]
+#[derive(Clone, Copy)]
 pub struct Notifications {
     pub kept: [Notification; 32],
     pub count: usize,

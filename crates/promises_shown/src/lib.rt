@@ -1,1 +1,2 @@
 // Lists of calls beside the promises, computed.
+#![tactic(auto)]

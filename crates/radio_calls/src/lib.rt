@@ -1,4 +1,6 @@
 // Advertisements and scan responses: the core by value, the tables in lent words, report bytes in the lent store.
+#![tactic(auto)]
+
 ghost use Rattle.std.specs.Prelude.{◌≡◌, ◌≤◌, length};
 ghost use Rattle.state_places.specs.Sizes.{most_reports, data_size};
 ghost use Rattle.adv_reports.specs.Reports.{no_response};
@@ -21,7 +23,7 @@ use time::Micros;
 use words_report::{NO_RESPONSE, Report};
 
 // What an advertisement leaves and asks for.
-#[derive(Drop)]
+#[derive(Clone, Copy)]
 pub struct Advertised {
     pub core: Core,
     pub refusal: u8,
@@ -29,7 +31,7 @@ pub struct Advertised {
 }
 
 // Where the report of an advertisement stands, how many there are then, and the length of its scan response.
-#[derive(Drop)]
+#[derive(Clone, Copy)]
 struct Kept {
     place: usize,
     count: usize,

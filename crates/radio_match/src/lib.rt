@@ -1,4 +1,6 @@
 // What the running step makes of an advertisement.
+#![tactic(auto)]
+
 ghost use Rattle.std.specs.Prelude.{◌≡◌, ◌<◌, length};
 ghost use Rattle.state_places.specs.Sizes.{most_reports, store_size};
 ghost use Rattle.uuid_value.specs.Value.{num};
@@ -10,7 +12,7 @@ use state::{Running, Step, Target};
 use uuid_value::Uuid;
 
 // What is to be sent to an advertiser at once.
-#[derive(Drop)]
+#[derive(Clone, Copy)]
 pub enum AdvAction {
     Nothing,
     ScanRequest,

@@ -1,4 +1,6 @@
 // What the calls of the radio share: the data's length and its refusal, and the refusal of a key too many.
+#![tactic(auto)]
+
 ghost use Rattle.std.specs.Prelude.{◌≡◌, ◌≤◌};
 ghost use Rattle.state_places.specs.Sizes.{data_size};
 ghost use Rattle.radio_rules.specs.Hearing.{then_data, no_key};

@@ -1,4 +1,6 @@
 // What stands at a place of the reports, and where its bytes stand in the store.
+#![tactic(auto)]
+
 ghost use Rattle.std.specs.Prelude.{◌≡◌, ◌<◌};
 ghost use Rattle.radio_sights.specs.View.{data_in, span_of, answer_in};
 
@@ -6,19 +8,19 @@ use state::Address;
 use time::Micros;
 
 // Bytes of the store: len from at on.
-#[derive(Drop)]
+#[derive(Clone, Copy)]
 pub struct Span {
     pub at: usize,
     pub len: usize,
 }
 
-#[derive(Drop)]
+#[derive(Clone, Copy)]
 pub enum Response {
     Nothing,
     At(Span),
 }
 
-#[derive(Drop)]
+#[derive(Clone, Copy)]
 pub struct AdvReport {
     pub address: Address,
     pub at: Micros,
@@ -28,7 +30,7 @@ pub struct AdvReport {
     pub response: Response,
 }
 
-#[derive(Drop)]
+#[derive(Clone, Copy)]
 pub enum Seen {
     Refused(u8),
     Nothing,

@@ -1,4 +1,6 @@
 // One report of a state in numbers, for whoever reads it: where its bytes stand in the store, or the bytes themselves.
+#![tactic(auto)]
+
 ghost use Rattle.std.specs.Prelude.{◌≡◌, ◌+◌, ◌≤◌, ◌<◌, length};
 ghost use Rattle.state_places.specs.Sizes.{most_reports};
 ghost use Rattle.uuid_value.specs.Value.{num};
@@ -17,7 +19,7 @@ use state_refusals::refusal;
 use uuid_value::Uuid;
 
 // Where bytes stand in the store: refused, nowhere, or there.
-#[derive(Drop)]
+#[derive(Clone, Copy)]
 pub enum Spot {
     Refused(u8),
     Nothing,
@@ -25,7 +27,7 @@ pub enum Spot {
 }
 
 // What a report tells of a service: refused, no such report, or what it tells.
-#[derive(Drop)]
+#[derive(Clone, Copy)]
 pub enum Sighting {
     Refused(u8),
     Nothing,

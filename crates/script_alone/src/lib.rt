@@ -1,4 +1,6 @@
 // What each kind of step does where there is no link, and which steps a closed bearer bars.
+#![tactic(auto)]
+
 ghost use Rattle.std.specs.Prelude.{◌≡◌};
 ghost use Rattle.script_rules.specs.Start.{unlinked_step, barred};
 

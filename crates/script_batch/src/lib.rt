@@ -1,4 +1,6 @@
 // push_steps: a batch of steps waits, and the script goes on.
+#![tactic(auto)]
+
 ghost use Rattle.std.specs.Prelude.{◌≡◌};
 ghost use Rattle.script_rules.specs.Batch.{gate_batch, push_steps};
 ghost use Rattle.state_core.specs.Reading.{central};

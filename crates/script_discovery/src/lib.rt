@@ -1,4 +1,6 @@
 // The first and the further requests of discovery: services, then characteristics, then descriptors.
+#![tactic(auto)]
+
 ghost use Rattle.std.specs.Prelude.{◌≡◌, List, ℕ, ◌≤◌, length};
 ghost use Rattle.state_places.specs.Sizes.{most_characteristics};
 ghost use Rattle.script_rules.specs.Send.{Room};

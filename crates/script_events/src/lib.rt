@@ -1,4 +1,6 @@
 // on_timer, on_connected and on_disconnected.
+#![tactic(auto)]
+
 ghost use Rattle.std.specs.Prelude.{◌≡◌, List, ℕ, ◌≤◌, ◌<◌, length};
 ghost use Rattle.state_places.specs.Sizes.{store_size, most_results};
 ghost use Rattle.time.specs.Clock.{latest};

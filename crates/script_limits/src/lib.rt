@@ -1,4 +1,6 @@
 // Which batches of steps are taken: what each step may be, and what the counters have room for.
+#![tactic(auto)]
+
 ghost use Rattle.std.specs.Prelude.{◌≡◌, ◌≤◌, take};
 ghost use Rattle.state_places.specs.Sizes.{most_steps};
 ghost use Rattle.lists.specs.Queue.{all};

@@ -1,4 +1,6 @@
 // The waiting steps: a batch goes in, the first comes out and runs.
+#![tactic(auto)]
+
 ghost use Rattle.std.specs.Prelude.{◌≡◌, true, ◌+◌, ◌≤◌, ◌<◌, length};
 ghost use Rattle.state_places.specs.Sizes.{most_steps, value_size};
 ghost use Rattle.lists.specs.Queue.{all};
@@ -28,7 +30,7 @@ fn value_len(p: Placed) -> usize
 }
 
 // All that a batch changes of the core: a loop that carries these two numbers goes faster than one that carries the core.
-#[derive(Drop)]
+#[derive(Clone, Copy)]
 struct Line {
     waiting: usize,
     refused: u64,

@@ -1,11 +1,13 @@
 // What the script does (definitions and their laws): how a step begins, runs and ends, what waits, what each event does.
+#![tactic(auto)]
+
 use notifications::Age;
 use state::Step;
 use time::Millis;
 use uuid_value::Uuid;
 
 // A step with its value's place in the lent bytes.
-#[derive(Drop)]
+#[derive(Clone, Copy)]
 pub struct Placed {
     pub step: Step,
     pub place: usize,
@@ -13,14 +15,14 @@ pub struct Placed {
 }
 
 // The first count are the batch.
-#[derive(Drop)]
+#[derive(Clone, Copy)]
 pub struct Batch {
     pub steps: [Placed; 64],
     pub count: usize,
 }
 
 // What a step does without a link: it runs for its milliseconds, is done, or needs one.
-#[derive(Drop)]
+#[derive(Clone, Copy)]
 pub enum Alone {
     Runs(Millis),
     Done,
@@ -28,7 +30,7 @@ pub enum Alone {
 }
 
 // What a step waits on, and how old a notification may be that it counts.
-#[derive(Drop)]
+#[derive(Clone, Copy)]
 pub enum Awaited {
     Nothing,
     On { characteristic: Uuid, age: Age },

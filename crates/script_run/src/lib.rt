@@ -1,4 +1,6 @@
 // The script goes on: while no step runs and some wait, the first of them begins.
+#![tactic(auto)]
+
 ghost use Rattle.std.specs.Prelude.{◌≡◌, true, List, ℕ, ◌≤◌};
 ghost use Rattle.time.specs.Clock.{latest};
 ghost use Rattle.script_rules.specs.Sound.{Sound, Whole};

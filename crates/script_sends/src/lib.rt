@@ -1,4 +1,6 @@
 // Frames go out, one behind another.
+#![tactic(auto)]
+
 ghost use Rattle.std.specs.Prelude.{◌≡◌, ◌+◌, ◌≤◌, ◌<◌, length};
 ghost use Rattle.script_rules.specs.World.{told};
 ghost use Rattle.script_rules.specs.Send.{Room, send, request};

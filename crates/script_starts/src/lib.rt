@@ -1,4 +1,6 @@
 // What each step does when it begins (the Rust's `start`).
+#![tactic(auto)]
+
 ghost use Rattle.std.specs.Prelude.{◌≡◌, List, true, ℕ, ◌≤◌, length};
 ghost use Rattle.state_places.specs.Sizes.{store_size, most_results, value_size};
 ghost use Rattle.state_rules.specs.Facts.{Fit};

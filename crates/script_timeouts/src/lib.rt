@@ -1,4 +1,6 @@
 // A step whose deadline has come: which it is, and what its end leaves of its bearer.
+#![tactic(auto)]
+
 ghost use Rattle.std.specs.Prelude.{◌≡◌, ◌≤◌};
 ghost use Rattle.script_rules.specs.Timeouts.{due, closing};
 

@@ -1,4 +1,6 @@
 // What every call of the script is made of: a step ends, a step runs for its milliseconds, a request goes out.
+#![tactic(auto)]
+
 ghost use Rattle.std.specs.Prelude.{◌≡◌, List, ℕ, ◌+◌, ◌≤◌, ◌<◌, length};
 ghost use Rattle.lists.specs.Blocks.{stored};
 ghost use Rattle.state_places.specs.Sizes.{held_at, store_size, result_size, most_results};

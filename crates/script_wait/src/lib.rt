@@ -1,4 +1,6 @@
 // The wait check: what a WaitNotification looks at, when it starts and at each notification.
+#![tactic(auto)]
+
 ghost use Rattle.std.specs.Prelude.{◌≡◌, List, ℕ, length};
 ghost use Rattle.state_places.specs.Sizes.{store_size};
 ghost use Rattle.script_rules.specs.Wait.{Looks, wanted, wait_passes, passed_on, passed, check_one, awaited, check_wait};

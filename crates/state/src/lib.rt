@@ -1,17 +1,19 @@
 // The parts of a central's state, which functions and definitions speak of. How they lie in words: crate words.
+#![tactic(auto)]
+
 use notifications::Age;
 use time::{Micros, Millis};
 use uuid_value::Uuid;
 
 // A device address as a number, low + 2^32 * high, and its type.
-#[derive(Drop)]
+#[derive(Clone, Copy)]
 pub struct Address {
     pub low: u32,
     pub high: u16,
     pub random: bool,
 }
 
-#[derive(Drop)]
+#[derive(Clone, Copy)]
 pub enum Target {
     Any,
     Address(Address),
@@ -20,7 +22,7 @@ pub enum Target {
 }
 
 // A step's value or `contains` is bytes; their number stands beside the step and they stand in the store.
-#[derive(Drop)]
+#[derive(Clone, Copy)]
 pub enum Step {
     Scan {
         ms: Millis,
@@ -68,7 +70,7 @@ pub enum Step {
     },
 }
 
-#[derive(Drop)]
+#[derive(Clone, Copy)]
 pub enum StepStatus {
     Ok,
     Timeout,
@@ -83,21 +85,21 @@ pub enum StepStatus {
     BearerClosed,
 }
 
-#[derive(Drop)]
+#[derive(Clone, Copy)]
 pub struct Queued {
     pub step: Step,
     pub len: u8,
 }
 
 // The waiting steps, the next one first; those from count on are none.
-#[derive(Drop)]
+#[derive(Clone, Copy)]
 pub struct Queue {
     pub kept: [Queued; 64],
     pub count: usize,
 }
 
 // An aged wait that ends Ok tells what it passed on: one past the number of a notification, 0 in every other result.
-#[derive(Drop)]
+#[derive(Clone, Copy)]
 pub struct StepResult {
     pub index: u32,
     pub at: Micros,
@@ -107,14 +109,14 @@ pub struct StepResult {
 }
 
 // The newest results, the oldest first; those from count on are none.
-#[derive(Drop)]
+#[derive(Clone, Copy)]
 pub struct Results {
     pub kept: [StepResult; 64],
     pub count: usize,
 }
 
 // The running step, if it is active; its deadline, if it is dated.
-#[derive(Drop)]
+#[derive(Clone, Copy)]
 pub struct Running {
     pub deadline: Micros,
     pub step: Step,
@@ -127,7 +129,7 @@ pub struct Running {
 }
 
 // What a present link is: 01's link record. A pending opcode of 0 is none.
-#[derive(Drop)]
+#[derive(Clone, Copy)]
 pub struct Link {
     pub handle: u16,
     pub mtu: u16,
@@ -136,7 +138,7 @@ pub struct Link {
 }
 
 // The link, if it is present, how many bytes are held of a frame, and whether a request was given up on it (set in strict mode alone).
-#[derive(Drop)]
+#[derive(Clone, Copy)]
 pub struct Bearer {
     pub held: usize,
     pub link: Link,
@@ -145,7 +147,7 @@ pub struct Bearer {
 }
 
 // The present link has the number `links`.
-#[derive(Drop)]
+#[derive(Clone, Copy)]
 pub struct Counters {
     pub next_index: u32,
     pub refused_steps: u64,
@@ -155,7 +157,7 @@ pub struct Counters {
 }
 
 // What was heard of each advertiser, a place of each array for one: a response of 32 bytes is none.
-#[derive(Drop)]
+#[derive(Clone, Copy)]
 pub struct Heard {
     pub at: [Micros; 64],
     pub channel: [u8; 64],
@@ -165,7 +167,7 @@ pub struct Heard {
 }
 
 // The reports, the oldest first; those from count on are none.
-#[derive(Drop)]
+#[derive(Clone, Copy)]
 pub struct Reports {
     pub who: [u64; 64],
     pub heard: Heard,
@@ -173,13 +175,13 @@ pub struct Reports {
 }
 
 // The advertisers that the running scan has asked; those from count on are none.
-#[derive(Drop)]
+#[derive(Clone, Copy)]
 pub struct Keys {
     pub kept: [u64; 128],
     pub count: usize,
 }
 
-#[derive(Drop)]
+#[derive(Clone, Copy)]
 pub struct Counts {
     pub waiting: usize,
     pub results: usize,
@@ -189,14 +191,14 @@ pub struct Counts {
 }
 
 // What is chosen when a state is made. With none chosen it does what the Rust does.
-#[derive(Drop)]
+#[derive(Clone, Copy)]
 pub struct Options {
     // After an ATT timeout no step sends ATT until the next link (Core Vol 3 Part F 3.3.3).
     pub strict: bool,
 }
 
 // At most one in a call.
-#[derive(Drop)]
+#[derive(Clone, Copy)]
 pub enum LinkRequest {
     Nothing,
     Update {
@@ -210,7 +212,7 @@ pub enum LinkRequest {
 }
 
 // What a call has sent so far.
-#[derive(Drop)]
+#[derive(Clone, Copy)]
 pub struct Sent {
     pub frames: usize,
     pub bytes: usize,

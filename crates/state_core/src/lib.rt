@@ -1,8 +1,10 @@
 // A state in numbers: what goes by value, and the tables, which are lent as words.
+#![tactic(auto)]
+
 use state::{Bearer, Counters, Counts, Options, Running, Sent};
 
 // All of a state but its tables: the running step, the link, the counters, how many places of each table are in use, and what was chosen.
-#[derive(Drop)]
+#[derive(Clone, Copy)]
 pub struct Core {
     pub running: Running,
     pub bearer: Bearer,
@@ -14,7 +16,7 @@ pub struct Core {
 }
 
 // A call's work by value: the core as it stands, and what was sent on the way.
-#[derive(Drop)]
+#[derive(Clone, Copy)]
 pub struct Turn {
     pub core: Core,
     pub sent: Sent,

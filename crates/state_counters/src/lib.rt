@@ -1,4 +1,6 @@
 // The counters: what a fit state has in them, and when no more can be counted.
+#![tactic(auto)]
+
 ghost use Rattle.std.specs.Prelude.{◌≡◌, ◌+◌, eqb, leb};
 ghost use Rattle.state_counters.specs.Counters.{most_notified, most_links, last_index, counters_fit};
 

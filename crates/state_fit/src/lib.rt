@@ -1,4 +1,6 @@
 // Whether a state in numbers is one that calls take, and the refusals that calls share.
+#![tactic(auto)]
+
 ghost use Rattle.std.specs.Prelude.{◌≡◌, ◌≤◌};
 ghost use Rattle.state_places.specs.Sizes.{most_steps, most_results, most_characteristics, most_notifications};
 ghost use Rattle.state_rules.specs.Gate.{gate, gate_quiet, gate_reader};

@@ -1,4 +1,6 @@
 // The kinds of steps, and what goes by the kind alone.
+#![tactic(auto)]
+
 ghost use Rattle.std.specs.Prelude.{◌≡◌, eqb};
 ghost use Rattle.state_kinds.specs.Kinds.{kind_of, carries, att_step};
 

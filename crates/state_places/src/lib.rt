@@ -1,4 +1,6 @@
 // Sizes and the places of the lent store: the one file that computes them.
+#![tactic(auto)]
+
 ghost use Rattle.std.specs.Prelude.{◌≡◌, ◌+◌, ◌*◌, ◌<◌};
 ghost use Rattle.state_places.specs.Sizes.{waiting_at, result_at, notification_at, report_at, response_at};
 

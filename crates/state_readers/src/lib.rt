@@ -1,4 +1,6 @@
 // The calls that only read a core and its tables.
+#![tactic(auto)]
+
 ghost use Rattle.std.specs.Prelude.{◌≡◌, ◌≤◌, length, take};
 ghost use Rattle.state_places.specs.Sizes.{most_results, most_notifications};
 ghost use Rattle.state_readers.specs.Readers.{timer_of, timer, handle_of, handle, given, result_answer, heard_by, named, passed_on};
@@ -10,14 +12,14 @@ use state_core::Core;
 use state_refusals::refusal;
 use time::Micros;
 
-#[derive(Drop)]
+#[derive(Clone, Copy)]
 pub enum Timer {
     Refused(u8),
     Never,
     At(Micros),
 }
 
-#[derive(Drop)]
+#[derive(Clone, Copy)]
 pub enum Handle {
     Refused(u8),
     Absent,
@@ -25,7 +27,7 @@ pub enum Handle {
 }
 
 // A result's value is the len bytes of the store from place on.
-#[derive(Drop)]
+#[derive(Clone, Copy)]
 pub enum Given {
     Refused(u8),
     Nothing,
@@ -38,7 +40,7 @@ pub enum Given {
 }
 
 // A notification's value is the len bytes of the store from place on.
-#[derive(Drop)]
+#[derive(Clone, Copy)]
 pub enum Passed {
     Refused(u8),
     Nothing,

@@ -1,4 +1,6 @@
 // The refusal numbers, and which of them is given where more than one applies.
+#![tactic(auto)]
+
 ghost use Rattle.std.specs.Prelude.{◌≡◌, ◌&&◌, ◌+◌, eqb, leb};
 ghost use Rattle.bytes_base.specs.Choice.{pick};
 ghost use Rattle.state_places.specs.Sizes.{store_size, output_size, frame_size};

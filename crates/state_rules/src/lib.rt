@@ -1,4 +1,6 @@
 // Whether a core is one that calls take, and which steps a batch accepts.
+#![tactic(auto)]
+
 ghost use Rattle.std.specs.Prelude.{◌≡◌, ◌≤◌};
 ghost use Rattle.state_rules.specs.Steps.{mtu_named, step_fits};
 ghost use Rattle.state_rules.specs.Fit.{counts_fit, is_request};

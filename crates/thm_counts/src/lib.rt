@@ -1,1 +1,2 @@
 // Two counters of the state are what the calls make them, over every sequence of calls: theorems, no code.
+#![tactic(auto)]

@@ -1,1 +1,2 @@
 // Definitions and theorems alone: feeds cut otherwise.
+#![tactic(auto)]

@@ -1,1 +1,2 @@
 // Every call leaves a fit state.
+#![tactic(auto)]

@@ -1,1 +1,2 @@
 // A Connect goes on listed alone.
+#![tactic(auto)]

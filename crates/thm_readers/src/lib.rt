@@ -1,1 +1,2 @@
 // What the readers say, over every sequence of calls: theorems, no code.
+#![tactic(auto)]

@@ -1,1 +1,2 @@
 // Requests and what they wait for, over every sequence of calls: theorems, no code.
+#![tactic(auto)]

@@ -1,13 +1,15 @@
 // The two units of time, and the one way from a step's milliseconds to the clock's microseconds.
+#![tactic(auto)]
+
 ghost use Rattle.std.specs.Prelude.{◌≡◌};
 ghost use Rattle.time.specs.Clock.{later, deadline, att_deadline, too_late};
 
 // A wait that a step names.
-#[derive(Drop)]
+#[derive(Clone, Copy)]
 pub struct Millis(pub u32);
 
 // A moment of the clock, or a span of it.
-#[derive(Drop)]
+#[derive(Clone, Copy)]
 pub struct Micros(pub u64);
 
 const MICROS_PER_MILLI: u64 = 1_000;

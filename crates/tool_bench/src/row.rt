@@ -5,7 +5,7 @@ use notifications::Age;
 use state::{Counters, Counts, Step, Target};
 use time::{Micros, Millis};
 
-#[derive(Drop)]
+#[derive(Clone, Copy)]
 pub struct Row {
     // The running step, and each that waits.
     pub step: Step,

@@ -1,6 +1,8 @@
 // For ./bench alone: a program that makes several calls, each from more than one place, so that the compiler takes none of them into a
 // loop. A round of three calls, to be timed: an advertisement, a scan response and a timer call that ends nothing, in a Scan, of 64
 // advertisers, all known.
+#![tactic(auto)]
+
 mod by_value;
 mod on_tables;
 

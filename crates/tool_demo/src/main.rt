@@ -1,6 +1,8 @@
 // The library at work on a script: a collector's scripts of one night are played against a simulated bay head, and told in words or as
 // a timeline. In the evening a notification comes that nobody waits for; what becomes of it in the morning is told three times, from one
 // state.
+#![tactic(auto)]
+
 mod play;
 mod prose;
 mod steps;
@@ -9,11 +11,13 @@ mod timeline;
 mod waits;
 
 use central::State;
-use libc::STDIN_FILENO;
 use play::{Night, Turn};
 use story::Part;
 
-#[derive(Drop)]
+// Standard input.
+const STDIN_FILENO: i32 = 0;
+
+#[derive(Clone, Copy)]
 enum Form {
     Silent,
     Words,

@@ -40,7 +40,7 @@ const ANSWERS_AFTER: Micros = Micros(10_000);
 
 // How far the night is: the library's state; when the last thing was; what is next of itself; how many bytes were sent; the number of
 // the first step of the part's script.
-#[derive(Drop)]
+#[derive(Clone, Copy)]
 pub struct Night {
     pub state: State,
     pub now: Micros,
@@ -50,7 +50,7 @@ pub struct Night {
 }
 
 // What happened, what the call gave, and how far the night is then.
-#[derive(Drop)]
+#[derive(Clone, Copy)]
 pub struct Turn {
     pub night: Night,
     pub happening: Happening,
@@ -60,7 +60,7 @@ pub struct Turn {
 }
 
 // What a call gave.
-#[derive(Drop)]
+#[derive(Clone, Copy)]
 struct Did {
     state: State,
     action: AdvAction,

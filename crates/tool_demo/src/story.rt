@@ -3,7 +3,7 @@ use time::Micros;
 
 // The night: the evening, and a morning that is told three times: with waits of any age; with aged waits, and a notification comes
 // while one runs; with aged waits, and it comes while none runs.
-#[derive(Drop)]
+#[derive(Clone, Copy)]
 pub enum Part {
     Evening,
     AnyAge,
@@ -11,7 +11,7 @@ pub enum Part {
     Late,
 }
 
-#[derive(Drop)]
+#[derive(Clone, Copy)]
 pub enum What {
     // The part's script is handed in.
     Script,
@@ -33,7 +33,7 @@ pub const TAKEN: u8 = 1;
 const FREE: u8 = 2;
 
 // Something that happens; whether it does of itself.
-#[derive(Drop)]
+#[derive(Clone, Copy)]
 pub struct Happening {
     pub at: Micros,
     pub what: What,

@@ -1,5 +1,7 @@
 // The library at work, in plain words: one bay head's advertisement taken apart and searched, what heads tell of a service, and
 // connection parameter requests judged and answered.
+#![tactic(auto)]
+
 mod presences;
 mod requests;
 mod searches;

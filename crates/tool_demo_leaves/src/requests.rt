@@ -3,7 +3,7 @@ ghost use Rattle.std.specs.Prelude.{◌≡◌, ◌<◌};
 
 use l2cap::cid;
 
-#[derive(Drop)]
+#[derive(Clone, Copy)]
 pub struct Request {
     pub min: u16,
     pub max: u16,

@@ -1,5 +1,7 @@
 // One number of a whole state in numbers or of lent bytes, for programs that test whether a call left them as they were. What
 // differs in one half of a field or of a word alone has another number.
+#![tactic(auto)]
+
 mod spans;
 mod steps;
 

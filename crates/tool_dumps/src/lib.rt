@@ -1,4 +1,6 @@
 // The whole state in words (docs/TRACE.md, 'Lines'), each part with its word before it: the core goes by value, the tables are lent.
+#![tactic(auto)]
+
 use gatt_characteristics::{Characteristic, Characteristics};
 use state::{Bearer, Counters, Running};
 use state_core::Core;

@@ -16,7 +16,7 @@ const OTHER_DATA: [u8; 3] = [0x02, 0x01, 0x04];
 const SCAN: Step = Step::Scan { ms: Millis(60_000) };
 
 // A state whose Scan has heard so many advertisers, and how many of them it asked.
-#[derive(Drop)]
+#[derive(Clone, Copy)]
 struct Heard {
     state: State,
     asked: u64,

@@ -1,5 +1,7 @@
 // Edges that are shown by running them, as 01 asks: a Write at the MTU, the scan keys at 128, the batch at 64, values that a wait
 // joins, a frame of 251 bytes, the views of a report. Prints what the calls gave.
+#![tactic(auto)]
+
 mod held;
 mod joined;
 mod keys;

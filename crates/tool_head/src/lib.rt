@@ -6,6 +6,8 @@
 //   4     its configuration            8     its configuration
 //                                      9   string, 2A3D
 //                                     10     its value
+#![tactic(auto)]
+
 use att_pdu::{err, op};
 use l2cap::cid;
 

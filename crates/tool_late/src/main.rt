@@ -1,4 +1,6 @@
 // Bay 15's read and bay 14's late answer, told twice: in the old mode and in strict mode.
+#![tactic(auto)]
+
 mod play;
 mod scripts;
 mod story;

@@ -1,4 +1,6 @@
 // For the comparison with the Rust alone: the leaves that the collector does not call, on numbers and bytes.
+#![tactic(auto)]
+
 ghost use Rattle.std.specs.Prelude.{◌≡◌, ◌+◌, ◌*◌, ◌^◌, length};
 ghost use Rattle.bytes_base.specs.Splice.{splice};
 ghost use Rattle.uuid_value.specs.Value.{att_uuid, att_of};

@@ -1,9 +1,15 @@
 // Replays the recorded answers of the Rust for the leaves: reads the list from standard input, asks the port, and writes how
 // many rows of each kind there were and how many differ.
+#![tactic(auto)]
+
 mod rows;
 
-use libc::{STDIN_FILENO, STDOUT_FILENO};
 use rows::Row;
+
+// Standard input and output.
+const STDIN_FILENO: i32 = 0;
+
+const STDOUT_FILENO: i32 = 1;
 
 // Longer than the list: a full buffer is a list that is not the one.
 const ROOM: usize = 262144;
@@ -19,7 +25,7 @@ const CUT: u8 = 2;
 
 const UNKNOWN: u8 = 3;
 
-#[derive(Drop)]
+#[derive(Clone, Copy)]
 struct Tally {
     at: usize,
     stands: u8,

@@ -20,7 +20,7 @@ const FRAME: usize = 4;
 
 const UUID_LEN: usize = 16;
 
-#[derive(Drop)]
+#[derive(Clone, Copy)]
 pub enum Row {
     // The kind, whether the port answers as the Rust did, and where the next row begins.
     Whole(u8, bool, usize),

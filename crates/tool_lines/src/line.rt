@@ -1,7 +1,9 @@
 // A line under way: the first at bytes of a lent buffer. Each function hands back the next place; a full buffer is written out
 // on the way, so a line may be longer than it.
-use libc::STDOUT_FILENO;
 use uuid_value::Uuid;
+
+// Standard output.
+const STDOUT_FILENO: i32 = 1;
 
 // A key is an address and, above its 48 bits, its type.
 const TYPE_PLACE: u64 = 0x1_0000_0000_0000;

@@ -1,5 +1,7 @@
 // Plays a trace of calls from standard input on the port, and writes one line for each record before the next is read
 // (docs/TRACE.md).
+#![tactic(auto)]
+
 mod fresh;
 mod play;
 mod tell;

@@ -30,7 +30,7 @@ const UNSENT: Sent = Sent {
 };
 
 // What goes on from record to record, beside the tables, and whether it does.
-#[derive(Drop)]
+#[derive(Clone, Copy)]
 pub struct Going {
     pub core: Core,
     pub on: bool,

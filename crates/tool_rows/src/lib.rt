@@ -1,4 +1,6 @@
 // What each thing of an answer or of a state is in words (docs/TRACE.md, 'Lines'). Bytes stand in s.
+#![tactic(auto)]
+
 use gatt_characteristics::{Cccd, Characteristic};
 use gatt_services::Service;
 use notifications::{Age, Notification};
@@ -15,7 +17,7 @@ use uuid_value::Uuid;
 const NO_RESPONSE: u8 = 32;
 
 // What was heard of an advertiser: one report.
-#[derive(Drop)]
+#[derive(Clone, Copy)]
 pub struct Advertiser {
     pub key: u64,
     pub at: u64,

@@ -1,6 +1,10 @@
 // Words, numbers, times and bytes to standard output.
-use libc::STDOUT_FILENO;
+#![tactic(auto)]
+
 use uuid_value::Uuid;
+
+// Standard output.
+const STDOUT_FILENO: i32 = 1;
 
 pub mod clock;
 

@@ -1,5 +1,7 @@
 // For ./bench alone: each call once on lent tables, for the stack that it needs. Tables, store and bytes are the harness's and lie not
 // on the stack that is measured; the core, and a batch of steps, are made here. Each answers what its call refuses.
+#![tactic(auto)]
+
 mod begun;
 
 use state_readers::{Given, Handle, Passed, Timer};

@@ -1,4 +1,6 @@
 // What calls give, in plain words: frames, link requests, results, moments.
+#![tactic(auto)]
+
 pub mod codes;
 pub mod names;
 mod pdu;
@@ -9,7 +11,7 @@ use state_readers::Given;
 use time::Micros;
 
 // A frame's line: its bytes and what it is; or its time and what it is, for a timeline.
-#[derive(Drop)]
+#[derive(Clone, Copy)]
 enum Line {
     Bytes,
     At(Micros),

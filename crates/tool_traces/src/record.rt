@@ -1,6 +1,8 @@
 // Records of a trace (docs/TRACE.md): a tag, the body's length, the body.
 use crate::steps;
-use libc::STDIN_FILENO;
+
+// Standard input.
+const STDIN_FILENO: i32 = 0;
 
 pub const FRESH: u8 = 0;
 
@@ -52,14 +54,14 @@ pub const RESPONSE_RANDOM_AT: usize = 14;
 pub const START_AT: usize = 8;
 
 // The least and the most bytes of a body.
-#[derive(Drop)]
+#[derive(Clone, Copy)]
 enum Size {
     Within(usize, usize),
     Unknown,
 }
 
 // Why a record can't be read.
-#[derive(Drop)]
+#[derive(Clone, Copy)]
 pub enum Bad {
     // The input ends inside it.
     Cut,
@@ -71,13 +73,13 @@ pub enum Bad {
     Field,
 }
 
-#[derive(Drop)]
+#[derive(Clone, Copy)]
 pub enum Shape {
     Good,
     Not(Bad),
 }
 
-#[derive(Drop)]
+#[derive(Clone, Copy)]
 pub enum Next {
     // The tag and the body's length.
     Record(u8, usize),

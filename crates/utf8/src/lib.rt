@@ -1,4 +1,6 @@
 // Well-formed UTF-8: the Unicode Standard, Table 3-7.
+#![tactic(auto)]
+
 ghost use Rattle.std.specs.Prelude.{◌≡◌, [], ◌∷◌, ◌<◌, length, drop, get_or};
 ghost use Rattle.utf8.specs.Utf8.{twos, threes, fours, some, sequence, utf8};
 

@@ -1,4 +1,6 @@
 // A UUID from its text.
+#![tactic(auto)]
+
 ghost use Rattle.std.specs.Prelude.{◌≡◌, ◌+◌, ◌≤◌, length, take};
 ghost use Rattle.std.proofs.Math.Seq.{slice};
 ghost use Rattle.uuid_text.specs.Text.{digit_of, short_uuid, long_uuid, parse_uuid};
@@ -31,7 +33,7 @@ const TOO_MANY: usize = 33;
 const TOP_BYTE: u64 = 0x100_0000_0000_0000;
 
 // The text without hyphens: the first len of hex, or TOO_MANY.
-#[derive(Drop)]
+#[derive(Clone, Copy)]
 struct Digits {
     len: usize,
     hex: [u8; 32],

@@ -1,25 +1,27 @@
 // UUIDs (Core Vol 3 Part B 2.5.1), and the bytes that ATT carries for them (Part F 3.2.1).
+#![tactic(auto)]
+
 ghost use Rattle.std.specs.Prelude.{◌≡◌, ◌+◌, ◌≤◌, eqb};
 ghost use Rattle.std.proofs.Math.Seq.{paste};
 ghost use Rattle.bytes_base.specs.Bytes.{le_at, le_bytes};
 ghost use Rattle.uuid_value.specs.Value.{num, of_num, short_of, att_uuid, att_of};
 
 // A UUID of 128 bits as two numbers: its value is low + 2^64 * high.
-#[derive(Drop)]
+#[derive(Clone, Copy)]
 pub struct Uuid {
     pub low: u64,
     pub high: u64,
 }
 
 // What may be no UUID.
-#[derive(Drop)]
+#[derive(Clone, Copy)]
 pub enum Read {
     Is(Uuid),
     Nothing,
 }
 
 // The bytes of a UUID as ATT carries them: the first len of bytes. The rest is zero.
-#[derive(Drop)]
+#[derive(Clone, Copy)]
 pub struct Att {
     pub len: usize,
     pub bytes: [u8; 16],

@@ -1,4 +1,6 @@
 // The tables of a state in words: how many there are, and where each record's words stand. A record has one word in each of its rows.
+#![tactic(auto)]
+
 ghost use Rattle.std.specs.Prelude.{◌≡◌, ◌+◌, ◌<◌, length};
 ghost use Rattle.words.specs.Rows.{Lowered};
 ghost use Rattle.words.specs.Tables.{tables_size};
@@ -59,7 +61,7 @@ pub const RESULT_HEARD: usize = 1088;
 
 // A step taken apart: what its kind does not have is 0. The size is that of its value, or the MTU that it names. A wait with an age has
 // its flag set, and the age's 32 bits in latency and timeout.
-#[derive(Drop)]
+#[derive(Clone, Copy)]
 pub struct Flat {
     pub kind: u8,
     pub flag: bool,

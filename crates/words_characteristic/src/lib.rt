@@ -1,4 +1,6 @@
 // Known characteristics in the lent words: a place has its UUID in two words and the rest in a third.
+#![tactic(auto)]
+
 ghost use Rattle.std.specs.Prelude.{◌≡◌, ◌+◌, ◌/◌, ◌%◌, ◌≤◌, ◌<◌, length, get_or, set, take};
 ghost use Rattle.lists.specs.Queue.{onto};
 ghost use Rattle.state_places.specs.Sizes.{most_characteristics};
@@ -15,7 +17,7 @@ use uuid_value::Uuid;
 use words::{CHARACTERISTIC, CHARACTERISTIC_HIGH, CHARACTERISTIC_LOW};
 
 // How many are known after an answer, the declaration of the last entry read, and whether an entry had no place.
-#[derive(Drop)]
+#[derive(Clone, Copy)]
 pub struct Heard {
     pub count: usize,
     pub last: u16,
@@ -23,7 +25,7 @@ pub struct Heard {
 }
 
 // Of the characteristics looked at so far, from the end: the first range, and where the one before them ends.
-#[derive(Drop)]
+#[derive(Clone, Copy)]
 struct Scan {
     best: Range,
     to: u16,

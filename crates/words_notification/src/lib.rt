@@ -1,4 +1,6 @@
 // Kept notifications in the lent words, a time, a link and one word more for each of 32 places, and a wait's search through their values.
+#![tactic(auto)]
+
 ghost use Rattle.std.specs.Prelude.{◌≡◌, true, ◌||◌, List, ℕ, ◌+◌, ◌≤◌, ◌<◌, ◌/◌, min, length, take, drop, get_or, set};
 ghost use Rattle.bytes_base.specs.Choice.{pick};
 ghost use Rattle.state_places.specs.Sizes.{most_notifications, held_at};

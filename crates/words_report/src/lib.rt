@@ -1,5 +1,7 @@
 // Reports in the lent words: the advertiser, the time and one word more for each of 64 places. And the advertisers that the running scan has
 // asked: one word for each of 128 places.
+#![tactic(auto)]
+
 ghost use Rattle.std.specs.Prelude.{◌≡◌, ◌&&◌, not, ◌≤◌, ◌<◌, take, set, eqb};
 ghost use Rattle.bytes_base.specs.Choice.{pick};
 ghost use Rattle.state_places.specs.Sizes.{most_reports, most_keys, data_size};
@@ -14,7 +16,7 @@ use time::Micros;
 use words::{KEY, REPORT, REPORT_AT, REPORT_WHO};
 
 // A report: its advertiser as one number, when and how it was heard, and the lengths of its bytes. They stand in the store.
-#[derive(Drop)]
+#[derive(Clone, Copy)]
 pub struct Report {
     pub who: u64,
     pub at: Micros,

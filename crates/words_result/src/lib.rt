@@ -1,4 +1,6 @@
 // The kept results in the tables' words: the time of each in one row, what it heard in another, all else in a third.
+#![tactic(auto)]
+
 ghost use Rattle.std.specs.Prelude.{◌≡◌, ◌+◌, ◌*◌, ◌/◌, ◌%◌, ◌≤◌, ◌<◌, get_or, set, take};
 ghost use Rattle.state_places.specs.Sizes.{most_results};
 ghost use Rattle.lists.specs.Queue.{shifted};

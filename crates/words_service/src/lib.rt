@@ -1,4 +1,6 @@
 // Known services in the lent words: one is read and written, one is found by its UUID, and an answer's entries are taken.
+#![tactic(auto)]
+
 ghost use Rattle.std.specs.Prelude.{◌≡◌, ◌/◌, ◌%◌, ◌<◌, ◌≤◌, length, take, get_or, set};
 ghost use Rattle.state_places.specs.Sizes.{most_services};
 ghost use Rattle.lists.specs.Queue.{onto};
@@ -16,7 +18,7 @@ const HANDLES: u64 = 65536;
 
 // What an answer leaves beside the services: how many there are then, the end handle of the last entry read, and whether an
 // entry had no place.
-#[derive(Drop)]
+#[derive(Clone, Copy)]
 pub struct Answered {
     pub count: usize,
     pub last: u16,

@@ -1,4 +1,6 @@
 // Waiting steps in the lent words: a step and its value's length in one word of each of four rows.
+#![tactic(auto)]
+
 ghost use Rattle.std.specs.Prelude.{◌≡◌, true, ◌/◌, ◌%◌, ◌≤◌, ◌<◌, take, get_or, set};
 ghost use Rattle.bytes_base.specs.Choice.{pick};
 ghost use Rattle.state_kinds.specs.Kinds.{carries};
@@ -62,7 +64,7 @@ const MAX_VALUE: u16 = state_places::MAX_VALUE as u16;
 const SHORT_BELOW: u64 = 68_961_369_294_110_720;
 
 // A target taken apart.
-#[derive(Drop)]
+#[derive(Clone, Copy)]
 struct Aim {
     aim: u8,
     uuid: Uuid,
