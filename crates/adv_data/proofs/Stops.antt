@@ -1,14 +1,12 @@
 -- Where the reading stops, one structure at a time: the bytes behind the last one, and whether their first is an overrun.
 use Prim.Native.Nat.{ℕ, ◌+◌, ◌-◌, ◌≤◌, ◌<◌}
-use mathlib.Core.Path.{◌≡◌, refl, sym, ap, ◌∙◌}
-use mathlib.Core.Bool.{Bool, true, false}
+use mathlib.Core.Path.{◌≡◌, refl, sym, ◌∙◌}
+use mathlib.Core.Bool.{true, false}
 use mathlib.Core.List.{List, [], ◌∷◌}
 use native.Mathlib.Omega.{arith}
 use lib.ListN.{length, drop, get_or, length-drop}
 use lib.Seq.{drop-drop}
-use lib.Dec.{eqb}
 use borrow.Author.Tests.{ne_eqb}
-use Rattle.bytes_base.specs.Choice.{pick}
 use Rattle.adv_data.specs.Answers.{extent, stop_of, overran}
 use Rattle.adv_data.proofs.Structures.{read_at, byte_at, read_here, read-zero, read_past, body-length}
 

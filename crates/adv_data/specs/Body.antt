@@ -18,4 +18,4 @@ body_at None p other = other
 
 -- that body lies in s, or else in t; no bytes lie where s begins
 abbrev pub listed_at : ℕ → Bor (List ℕ) → Bor (List ℕ) → ℕ × ℕ
-listed_at u s t = body_at (listing u (structures s.now)) s.ptr (body_at (listing u (structures t.now)) t.ptr s.ptr)
+listed_at u s t = body_at (listing u (structures s.now)) s.ref_ptr (body_at (listing u (structures t.now)) t.ref_ptr s.ref_ptr)

@@ -15,16 +15,16 @@ module _ (u : ℕ) (d t : Bor (List ℕ)) where
   abbrev pub Answers : List ℕ → ℕ × ℕ → Type 0
   Answers l p = (l ≡ listed_body u d.now t.now) × (p ≡ listed_at u d t)
 
-  pub in-data : (b n : ℕ) → Body b n ≡ listed_place u d.now → Answers (take (b + n - b) (drop b d.now)) (d.ptr.0, b + d.ptr.1)
+  pub in-data : (b n : ℕ) → Body b n ≡ listed_place u d.now → Answers (take (b + n - b) (drop b d.now)) (d.ref_ptr.0, b + d.ref_ptr.1)
   in-data b n e =
       let f = found_at u d.now b n e in
       rw (f.is, add-sub_cancel_left b n, f.bytes, f.begins) (refl, refl)
 
   module _ (none : Nothing ≡ listed_place u d.now) where
-    pub in-response : (b n : ℕ) → Body b n ≡ listed_place u t.now → Answers (take (b + n - b) (drop b t.now)) (t.ptr.0, b + t.ptr.1)
+    pub in-response : (b n : ℕ) → Body b n ≡ listed_place u t.now → Answers (take (b + n - b) (drop b t.now)) (t.ref_ptr.0, b + t.ref_ptr.1)
     in-response b n e =
         let f = found_at u t.now b n e in
         rw (found_none u d.now none, f.is, add-sub_cancel_left b n, f.bytes, f.begins) (refl, refl)
 
-    pub in-neither : Nothing ≡ listed_place u t.now → Answers [] d.ptr
+    pub in-neither : Nothing ≡ listed_place u t.now → Answers [] d.ref_ptr
     in-neither e = rw (found_none u d.now none, found_none u t.now e) (refl, refl)

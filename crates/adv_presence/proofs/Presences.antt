@@ -1,6 +1,6 @@
 -- What each return of the search over both asks; and that listed is what the base's search finds.
 use Prim.Native.Nat.{ℕ}
-use mathlib.Core.Path.{◌≡◌, refl, sym, ap, ◌∙◌}
+use mathlib.Core.Path.{◌≡◌, refl, sym, ◌∙◌}
 use mathlib.Core.Bool.{Bool, true, false, ◌||◌}
 use mathlib.Core.List.{List}
 use Rattle.adv_data.specs.Ad.{structures, Found, One, None, listing, place_of, lists_service}
@@ -10,7 +10,7 @@ use Rattle.adv_data.specs.declared.Sought.TheVariants as sought
 use Rattle.adv_data.proofs.Searches.{is_body, any_found}
 use Rattle.adv_presence.specs.declared.Presence.{Presence}
 use Rattle.adv_presence.specs.declared.Presence.TheVariants.{Absent, Listed, Unknown}
-use Rattle.adv_presence.specs.Presences.{presence_of, is_listed, is_unknown, either, presence_in}
+use Rattle.adv_presence.specs.Presences.{presence_of, is_listed, either, presence_in}
 
 -- beside data that does not list it the response decides
 alone : (b : Presence) → b ≡ either Absent b

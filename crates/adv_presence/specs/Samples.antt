@@ -1,5 +1,5 @@
 -- What heads send, and what is told of the Battery Service (180F): rows computed by hand from 02, Five, as one table under one claim.
-use Rattle.std.specs.Prelude.{ℕ, ◌≡◌, refl, List, [], ◌∷◌, ◌++◌, Bool, true, ◌&&◌, replicate, eqb}
+use Rattle.std.specs.Prelude.{ℕ, ◌≡◌, refl, List, [], ◌∷◌, Bool, true, ◌&&◌, replicate, eqb}
 use Rattle.bytes_base.specs.Choice.{among}
 use Rattle.bytes_base.specs.Bytes.{le}
 use Rattle.lists.specs.Cut.{chunks, entries}

@@ -86,22 +86,22 @@ module _ (d : Bor (List ℕ)) where
   abbrev pub AnswersAcl : List ℕ → ℕ × ℕ → Type 0
   AnswersAcl l p = (l ≡ acl_data (parts_of d.now) d.now) × (p ≡ acl_at (parts_of d.now) d.ref_ptr)
 
-  pub acl-part : (handle flag at n : ℕ) → parts.Acl handle flag at n ≡ parts_of d.now → AnswersAcl (take (at + n - at) (drop at d.now)) (d.ptr.0, at + d.ptr.1)
+  pub acl-part : (handle flag at n : ℕ) → parts.Acl handle flag at n ≡ parts_of d.now → AnswersAcl (take (at + n - at) (drop at d.now)) (d.ref_ptr.0, at + d.ref_ptr.1)
   acl-part handle flag at n e = rw (← e, add-sub_cancel_left at n) (refl, refl)
 
-  pub acl-none : parts.Nothing ≡ parts_of d.now → AnswersAcl [] d.ptr
+  pub acl-none : parts.Nothing ≡ parts_of d.now → AnswersAcl [] d.ref_ptr
   acl-none e = rw (← e) (refl, refl)
 
   module _ (connected : ℕ) where
     abbrev pub AnswersFragment : List ℕ → ℕ × ℕ → Type 0
-    AnswersFragment l p = (l ≡ fragment_data (fragment_of d.now connected) d.now) × (p ≡ fragment_at (fragment_of d.now connected) d.ptr)
+    AnswersFragment l p = (l ≡ fragment_data (fragment_of d.now connected) d.now) × (p ≡ fragment_at (fragment_of d.now connected) d.ref_ptr)
 
-    pub start-part : (at n : ℕ) → Start at n ≡ fragment_of d.now connected → AnswersFragment (take (at + n - at) (drop at d.now)) (d.ptr.0, at + d.ptr.1)
+    pub start-part : (at n : ℕ) → Start at n ≡ fragment_of d.now connected → AnswersFragment (take (at + n - at) (drop at d.now)) (d.ref_ptr.0, at + d.ref_ptr.1)
     start-part at n e = rw (← e, add-sub_cancel_left at n) (refl, refl)
 
     pub continuation-part : (at n : ℕ) → Continuation at n ≡ fragment_of d.now connected
-        → AnswersFragment (take (at + n - at) (drop at d.now)) (d.ptr.0, at + d.ptr.1)
+        → AnswersFragment (take (at + n - at) (drop at d.now)) (d.ref_ptr.0, at + d.ref_ptr.1)
     continuation-part at n e = rw (← e, add-sub_cancel_left at n) (refl, refl)
 
-    pub none-part : Nothing ≡ fragment_of d.now connected → AnswersFragment [] d.ptr
+    pub none-part : Nothing ≡ fragment_of d.now connected → AnswersFragment [] d.ref_ptr
     none-part e = rw (← e) (refl, refl)

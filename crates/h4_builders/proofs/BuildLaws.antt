@@ -1,14 +1,14 @@
 -- What a builder answers, from the test of its packet and from what was written.
 use Prim.Native.Nat.{ℕ, ◌+◌, ◌≤◌, ◌<◌}
 use mathlib.Core.Path.{◌≡◌, refl, sym, ap, ◌∙◌}
-use mathlib.Core.Bool.{Bool, true, false, not}
+use mathlib.Core.Bool.{Bool, true, false}
 use mathlib.Core.List.{List, ◌++◌}
 use native.Mathlib.Nat.{zero-add}
 use native.Mathlib.Omega.{arith}
 use lib.ListN.{length, take, drop}
 use lib.Seq.{take_all}
 use lib.Dec.{leb}
-use borrow.Author.Tests.{le-leb, lt-leb, leb-true, not-true, not-false}
+use borrow.Author.Tests.{le-leb, lt-leb, leb-true}
 use Rattle.bytes_base.specs.Choice.{pick}
 use Rattle.bytes_base.specs.Splice.{splice}
 use Rattle.bytes_base.proofs.SpliceLaws.{splice-in}
@@ -18,17 +18,17 @@ use Rattle.h4_builders.specs.Build.{built, refusing, build}
 -- ---- the test
 
 module _ (x : Bool) (room size n most : ℕ) (e : x ≡ leb size room) where
-  pub gate-short : not x ≡ true → ◌≡◌ {A = ℕ} 2 (refusing (leb size room) (leb n most))
+  pub gate-short : x ≡ false → ◌≡◌ {A = ℕ} 2 (refusing (leb size room) (leb n most))
   unfolding refusing
-  gate-short h = rw (sym e ∙ not-true x h)
+  gate-short h = rw (sym e ∙ h)
 
-  pub gate-long : not x ≡ false → most < n → ◌≡◌ {A = ℕ} 10 (refusing (leb size room) (leb n most))
+  pub gate-long : x ≡ true → most < n → ◌≡◌ {A = ℕ} 10 (refusing (leb size room) (leb n most))
   unfolding refusing
-  gate-long h l = rw (sym e ∙ not-false x h, lt-leb n most l)
+  gate-long h l = rw (sym e ∙ h, lt-leb n most l)
 
-  pub gate-passed : not x ≡ false → n ≤ most → ◌≡◌ {A = ℕ} 0 (refusing (leb size room) (leb n most))
+  pub gate-passed : x ≡ true → n ≤ most → ◌≡◌ {A = ℕ} 0 (refusing (leb size room) (leb n most))
   unfolding refusing
-  gate-passed h l = rw (sym e ∙ not-false x h, le-leb n most l)
+  gate-passed h l = rw (sym e ∙ h, le-leb n most l)
 
 -- what an accepted packet tells
 pub passed : (why size room n most : ℕ) → why ≡ refusing (leb size room) (leb n most) → why ≡ 0 → (size ≤ room) × (n ≤ most)

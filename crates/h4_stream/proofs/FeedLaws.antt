@@ -1,14 +1,14 @@
 -- How far packets reach, and what a feed leaves.
 use Prim.Native.Nat.{ℕ, suc, ◌+◌, ◌-◌, ◌≤◌, ◌<◌}
 use mathlib.Core.Path.{◌≡◌, refl, sym, ap, ◌∙◌}
-use mathlib.Core.Bool.{Bool, true, false, not}
+use mathlib.Core.Bool.{Bool, true, false}
 use mathlib.Core.List.{List, [], ◌∷◌, ◌++◌}
 use native.Mathlib.Omega.{arith}
 use native.Mathlib.Nat.{add-zero}
 use lib.ListN.{length, take, drop, length-append, length-drop}
 use lib.Seq.{length-take-le, drop-drop}
 use lib.Dec.{leb, ltb}
-use borrow.Author.Tests.{lt-ltb, le-ltb, not-true, not-false}
+use borrow.Author.Tests.{lt-ltb, le-ltb}
 use Rattle.bytes_base.proofs.TestLaws.{fits-yes, fits-no}
 use Rattle.lists.specs.Queue.{onto}
 use Rattle.h4_packets.specs.Numbers.{overheld, short_output, longest}
@@ -145,34 +145,34 @@ module _ (stream : Stream) (held fed out : List ℕ) where
   refused_over h x e = rw (e, lt-ltb longest stream.count h)
 
   module _ (fits : stream.count ≤ longest) (x : Bool) (is : x ≡ leb (stream.count + length fed) (length out)) where
-    pub refused-short : not x ≡ true → (r : Fed) → r ≡ record { stream = stream; refusal = short_output; packets = 0; len = 0 }
+    pub refused-short : x ≡ false → (r : Fed) → r ≡ record { stream = stream; refusal = short_output; packets = 0; len = 0 }
         → outcome r held out ≡ feeding stream held fed out
     unfolding feeding
     refused-short h r e =
-        let k : length out < stream.count + length fed = fits-no x (length out) stream.count (length fed) is (not-true x h) in
+        let k : length out < stream.count + length fed = fits-no x (length out) stream.count (length fed) is h in
         rw (e, le-ltb longest stream.count fits, lt-ltb (length out) (stream.count + length fed) k)
 
-    pub room : not x ≡ false → stream.count + length fed ≤ length out
-    room h = fits-yes x (length out) stream.count (length fed) is (not-false x h)
+    pub room : x ≡ true → stream.count + length fed ≤ length out
+    room h = fits-yes x (length out) stream.count (length fed) is h
 
-    accepted : not x ≡ false → feeding stream held fed out ≡ given (cut_from stream.lost (in_hand stream.count held fed)) held out
+    accepted : x ≡ true → feeding stream held fed out ≡ given (cut_from stream.lost (in_hand stream.count held fed)) held out
     unfolding feeding
     accepted h = rw (le-ltb longest stream.count fits, le-ltb (length out) (stream.count + length fed) (room h))
 
-    pub taken : not x ≡ false → stream.lost ≡ No → (r : Fed) (held' out' : List ℕ)
+    pub taken : x ≡ true → stream.lost ≡ No → (r : Fed) (held' out' : List ℕ)
         → outcome r held' out' ≡ given (cut (in_hand stream.count held fed)) held out → outcome r held' out' ≡ feeding stream held fed out
     taken h whole r held' out' e = e ∙ sym (accepted h ∙ rw whole)
 
     -- a stream that has lost its framing
-    lost-still : not x ≡ false → cut_from stream.lost (in_hand stream.count held fed) ≡ ends [] stream.lost
+    lost-still : x ≡ true → cut_from stream.lost (in_hand stream.count held fed) ≡ ends [] stream.lost
         → (r : Fed) → r ≡ answered 0 stream.lost 0 0 → outcome r held out ≡ feeding stream held fed out
     unfolding joined
     lost-still h none r e = rw e (sym (accepted h ∙ rw none))
 
-    pub still-by-indicator : not x ≡ false → stream.lost ≡ ByIndicator → (r : Fed) → r ≡ answered 0 stream.lost 0 0
+    pub still-by-indicator : x ≡ true → stream.lost ≡ ByIndicator → (r : Fed) → r ≡ answered 0 stream.lost 0 0
         → outcome r held out ≡ feeding stream held fed out
     still-by-indicator h lost = lost-still h (rw lost)
 
-    pub still-by-length : not x ≡ false → stream.lost ≡ ByLength → (r : Fed) → r ≡ answered 0 stream.lost 0 0
+    pub still-by-length : x ≡ true → stream.lost ≡ ByLength → (r : Fed) → r ≡ answered 0 stream.lost 0 0
         → outcome r held out ≡ feeding stream held fed out
     still-by-length h lost = lost-still h (rw lost)

@@ -50,7 +50,7 @@ module _ (c : Core) (st : List ℕ) where
 -- ---- refusals
 
 -- of a core that is not fit
-pub gate-core : (c : Core) (w : List ℕ) (store out : ℕ) (at : Micros) (start : Bool) (n : ℕ) (x : Bool) → x ≡ core_fits c → not x ≡ true
+pub gate-core : (c : Core) (w : List ℕ) (store out : ℕ) (at : Micros) (start : Bool) (n : ℕ) (x : Bool) → x ≡ core_fits c → x ≡ false
     → ◌≡◌ {A = ℕ} 1 (gate_fragment (central c w) store out at start n)
 gate-core c w store out at start n x e h =
     old.gate-shared (central c w) store out at start n 1 (refused-core c w x _ _ e h) (λ (z : ◌≡◌ {A = ℕ} 1 0). omega arith)

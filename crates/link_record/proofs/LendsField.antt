@@ -4,9 +4,9 @@ use mathlib.Core.Path.{◌≡◌, refl, sym, ◌∙◌, ap, subst}
 use Prim.Native.Nat.{ℕ, ◌+◌}
 use mathlib.Core.List.{[], ◌∷◌, List}
 use seplogic.Ra.Ura.{Ura}
-use seplogic.Ra.TreeShare.{full_share}
+use base.Fraction.{full_share}
 use lib.Dec.{T as Truth}
-use mir.Syntax.{Name, Ty, Fn, named, erased, mut, ty_unit, ty_ref, place, field, copy, rv_opd, addr_of, seq, assign, call, return, value_local, memory_slot, local}
+use mir.Syntax.{Callee as Called, Ty, Fn, named, erased, mut, ty_unit, ty_ref, place, field, copy, rv_opd, addr_of, seq, assign, call, return, value_local, memory_slot, local}
 use mir.Fields.{get_v, set_v}
 use mir.Val.{Val, vptr, vstruct, WT, has_ty}
 use base.Logic.{SProp, ent, sep, wand, all, emp, via, fst∗, id⊢, apply∗, all_e}
@@ -32,7 +32,7 @@ use denote.Triple.Call.{calls_at}
 use denote.Triple.Spec.{Meets, triple_of}
 use denote.Triple.Statement.{Contract, Triple}
 use denote.Triple.Clauses.{Clauses, Ended, closing, ensured, lasts}
-use denote.Triple.Walked.{says, Stays, stay_none, walk_of, Goes-none, ends_at, walked, walk_meets}
+use denote.Triple.Walked.{says, Stays, stay_none, walk_of, Goes-none, ends_at, walked, walk_Meets}
 use denote.Exit.{yes, Last}
 use denote.Struct.Declared.{Declared, row, fields, shape}
 use denote.Struct.Struct.{Plains, to_tys}
@@ -53,10 +53,12 @@ module _ (O R Q : RattleType) where
   abbrev pub clauses : (O.Denot → Q.Denot → O.Denot) → {M : Type 1} (𝓤 : Ura M) → Clauses 𝓤 ended
   clauses change 𝓤 κs a = record { ghost = Unit {0}; requires = λ _. emp 𝓤; ensures = λ _ r e. fact 𝓤 (r ≡ change a.0 a.1.0) }
 
-  abbrev pub function : ℕ → Name → Fn
+  abbrev pub function : ℕ → Called → Fn
   function i f = record {
     lifetimes = 0;
     outlives = [];
+    ty_params = [];
+    givens = 0;
     params = 2;
     locals = local (lone O.mir) value_local ∷ local (lone O.mir) value_local ∷ local (lone Q.mir) value_local ∷ local (lone O.mir) memory_slot ∷ local ty_unit value_local
         ∷ local (ty_ref erased mut (pointee R.written)) value_local ∷ [];
@@ -71,7 +73,7 @@ module _ (O R Q : RattleType) where
   abbrev pub Callee : (R.Denot → Q.Denot → R.Denot) → {M : Type 1} {𝓤 : Ura M} (𝓛 : Logic 𝓤) → Contract 𝓤
   Callee change {𝓤 = 𝓤} 𝓛 = triple_of 𝓛 (S.signature R Q) (closing 𝓛 (S.ended R Q) (S.clauses R Q change 𝓤))
 
-module _ {T : Declared} {L : LL.Laws T} {P : Plains (fields T)} {R Q : RattleType} {D : Data R} (F : Field T L P D) (E : Data Q) (f : Name) (change : R.Denot → Q.Denot → R.Denot) where
+module _ {T : Declared} {L : LL.Laws T} {P : Plains (fields T)} {R Q : RattleType} {D : Data R} (F : Field T L P D) (E : Data Q) (f : Called) (change : R.Denot → Q.Denot → R.Denot) where
   abbrev O : RattleType
   O = row T
 
@@ -128,11 +130,11 @@ module _ {T : Declared} {L : LL.Laws T} {P : Plains (fields T)} {R Q : RattleTyp
     Way l u = wand 𝓤 (H.at full_share ρ l d u) (H.at full_share τ l 0 (vstruct (set_v (parts T L h) F.index u)))
 
     -- what the callee's triple binds outside
-    abbrev to-callee : ℕ → ℕ → GName → (Callee O R Q change 𝓛).Ghost
-    to-callee α l γ = (((α ∷ [], tt), (full_share, tt), tt, (ref l γ, (n, tt)), (vptr l d ∷ [], (E.val n ∷ [], tt))), tt)
+    abbrev to_callee : ℕ → ℕ → GName → (Callee O R Q change 𝓛).Ghost
+    to_callee α l γ = (((α ∷ [], tt), (full_share, tt), tt, (ref l γ, (n, tt)), (vptr l d ∷ [], (E.val n ∷ [], tt))), tt)
 
     goes : (α l : ℕ) (γ : GName)
-        → ent 𝓤 (sep 𝓤 (A.lft (α ∷ []) full_share) (sem 𝓛 ((MutRef (named 0) (α ∷ []) R).own_val (ref l γ) (vptr l d ∷ [])))) ((Callee O R Q change 𝓛).pre (to-callee α l γ))
+        → ent 𝓤 (sep 𝓤 (A.lft (α ∷ []) full_share) (sem 𝓛 ((MutRef (named 0) (α ∷ []) R).own_val (ref l γ) (vptr l d ∷ [])))) ((Callee O R Q change 𝓛).pre (to_callee α l γ))
     goes α l γ =
         qed 𝓛 (‵ (flft (α ∷ []) full_share) ∷ ‵ ((MutRef (named 0) (α ∷ []) R).own_val (ref l γ) (vptr l d ∷ [])) ∷ []) ∵ nothing ! $ move ! (1 ∷ 0 ∷ []) $ join ! $
         nothing ! $ owned ! Q (Is Q) (E.makes 𝓛) n _ gn $ fjoin ! $ move ! (2 ∷ 0 ∷ []) $ fjoin ! $ move ! (1 ∷ 0 ∷ []) $ join ! $ nothing ! $ move ! (1 ∷ 0 ∷ []) $ done !
@@ -145,11 +147,11 @@ module _ {T : Declared} {L : LL.Laws T} {P : Plains (fields T)} {R Q : RattleTyp
           pass1 ! (init ! 8 refl (typed (whole F) 𝓛 h _ gh)) $ pass1 ! (init ! 6 refl (typed E 𝓛 n _ gn)) $ pass0 ! $
           -- [_5; …; _4; …; _3; …; _2; …; _1; …; _0; …]
           assigns ! (of_opd ! (load ! (from ! (stop !)) (look ! 8 refl))) (from ! (stop !)) (init ! 4 refl (typed (whole F) 𝓛 h _ gh)) $
-          assigns ! (addr ! (from ! (fld ! F.lies_at_lem (stop !)))) (from ! (stop !)) (init ! 0 refl (tt, tt)) $
+          assigns ! (addr ! (from ! (fld ! F.lies_at (stop !)))) (from ! (stop !)) (init ! 0 refl (tt, tt)) $
           -- the field's cell is taken out of the local
           move ! (4 ∷ []) $
           use1 𝓛 (‵ (fat full_share ρ l₃ d (get_v (parts T L h) F.index)) ⊛ raw (all 𝓤 (Way l₃)))
-          (𝓛.laws.at_field full_share (shape T).name (to_tys (mirs (fields T))) F.index ρ F.place F.lies_at_lem l₃ 0 (parts T L h)) $ split ! $
+          (𝓛.laws.at_field full_share (shape T).name (to_tys (mirs (fields T))) F.index ρ F.place F.lies_at l₃ 0 (parts T L h)) $ split ! $
           rewrite ! 0 (λ (u : Val). ‵ (fat full_share ρ l₃ d u)) (F.held h) refl $
           -- it is lent for a new lifetime
           owned ! R (Is R) (D.makes 𝓛) y _ (F.asked h gs) $ move ! (1 ∷ 0 ∷ []) $
@@ -157,15 +159,17 @@ module _ {T : Declared} {L : LL.Laws T} {P : Plains (fields T)} {R Q : RattleTyp
           lft_new ! tt (λ α. move ! (1 ∷ []) $
           use1 𝓛 (later (some (λ (γ : GName). ‵ ((MutRef (named 0) (α ∷ []) R).own_val (ref l₃ γ) (vptr l₃ d ∷ [])) ⊛ ‵ (flent (α ∷ []) (Body (mem R) l₃ d γ)))))
           (lends_ref 𝓛 R (named 0) (α ∷ []) y l₃ d) $ await ! tt $ pick ! (λ γ. split ! $
-          move ! (2 ∷ 0 ∷ []) $ use2 𝓛 (raw ((Callee O R Q change 𝓛).pre (to-callee α l₃ γ))) (goes α l₃ γ) $
+          move ! (2 ∷ 0 ∷ []) $ use2 𝓛 (raw ((Callee O R Q change 𝓛).pre (to_callee α l₃ γ))) (goes α l₃ γ) $
           -- [pre; the lender's part; the way back; _5; …; _4; …; _3's end; _2; …; _1; …; _0; …]
-          calls_at ! fm (Callee O R Q change 𝓛) known (to-callee α l₃ γ) (and_then ! (load ! (from ! (stop !)) (look ! 3 refl))
+          calls_at ! fm (Callee O R Q change 𝓛) known (to_callee α l₃ γ) (and_then ! (load ! (from ! (stop !)) (look ! 3 refl))
           (and_then ! (load ! (from ! (stop !)) (look ! 8 refl)) (no_more !))) (λ w.
           use1 𝓛 (later (some (λ (r : Unit {0}). ((‵ (flft (α ∷ []) full_share) ⊛ ‵ ftrue) ⊛ ‵ (unit.own_val r (w ∷ [])))
           ⊛ raw (ensured 𝓛 (S.ended R Q) (S.clauses R Q change 𝓤) (α ∷ [], tt) (ref l₃ γ, (n, tt)) tt r)))) (id⊢ 𝓤 _) $ await ! tt $ pick ! (λ r. split ! $ move ! (1 ∷ []) $
           -- what it ensures, at some last value
           use1 𝓛 (some (λ (zs : R.Denot × (Last (Q.exit yes) n × Unit {0})). ‵ (lasts (S.ended R Q) (α ∷ [], tt) (ref l₃ γ, (n, tt)) zs) ⊛ raw (fact 𝓤 (zs.0 ≡ change y n)))) (id⊢ 𝓤 _) $
-          pick ! (λ zs. split ! $ move ! (1 ∷ []) $ heard ! (zs.0 ≡ change y n) (λ e. fsplit ! $ move ! (2 ∷ []) $ split ! $ move ! (1 ∷ []) $
+          pick ! (λ zs. split ! $ move ! (1 ∷ []) $ heard ! (zs.0 ≡ change y n) (λ e.
+          -- what is left of the borrow is let go
+          fsplit ! $ fsplit ! $ move ! (1 ∷ []) $ drop ! $ move ! (2 ∷ []) $ split ! $ move ! (1 ∷ []) $
           peeks ! unit (Is unit) (shows 𝓛 unit) r (w ∷ []) (λ is.
           -- [what () owns; the tokens; the last value; …; the lender's part; the way back; _5; …; _4; …; _3's end; _2; …; _1; …; _0; …]
           land ! (from ! (stop !)) (init ! 8 refl (subst (λ (u : Val). Truth (has_ty ty_unit u) × WT u) (sym (ap only is)) (tt, tt))) $
@@ -198,7 +202,7 @@ module _ {T : Declared} {L : LL.Laws T} {P : Plains (fields T)} {R Q : RattleTyp
   pub lends_field : {M : Type 1} {𝓤 : Ura M} (𝓛 : Logic 𝓤) (𝓣 : Tables 𝓤 𝓛.H) → Triple 𝓤 (𝓣.C f) (Callee O R Q change 𝓛)
       → Meets 𝓛 (signature O R Q) (WpFn 𝓤 𝓛.H 𝓣.C 𝓣.Λ fn) (closing 𝓛 (ended O R Q) (clauses O R Q outer 𝓤))
   lends_field {𝓤 = 𝓤} 𝓛 𝓣 known =
-      walk_meets 𝓛 (ended O R Q) (stayed O R Q) (Goes-none 𝓛 0 (λ _. O) yes (λ κs. F.silent), (Goes-none 𝓛 0 (λ _. Q) yes (λ κs. E.silent), tt))
+      walk_Meets 𝓛 (ended O R Q) (stayed O R Q) (Goes-none 𝓛 0 (λ _. O) yes (λ κs. F.silent), (Goes-none 𝓛 0 (λ _. Q) yes (λ κs. E.silent), tt))
       (clauses O R Q outer 𝓤) (WpFn 𝓤 𝓛.H 𝓣.C 𝓣.Λ fn) (WpFn-mono 𝓤 𝓛.H 𝓛.laws 𝓣 fn)
       (walked 𝓛 (ended O R Q) (stayed O R Q) (clauses O R Q outer 𝓤) (WpFn 𝓤 𝓛.H 𝓣.C 𝓣.Λ fn) (λ κs. (LL.vals T L, ((λ z. E.val z ∷ []), tt))) (λ κs. (LL.tells T L, (E.tells, tt)))
       (λ κs qs bounds a _ are. via 𝓤 _ (fst∗ 𝓤 _ (emp 𝓤)) (walk 𝓛 a.0 a.1.0 are.0 are.1.0 𝓣.C 𝓣.Λ (fm_of 𝓤 𝓛.H 𝓛.laws 𝓣) known)))

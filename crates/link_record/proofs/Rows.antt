@@ -11,8 +11,8 @@ use Rattle.link_record.proofs.Field.{Field}
 abbrev pub link : Data T.the_row
 link = struct T.the_type T'.the_laws T'.the_plain (λ x. tt) (λ x f. refl)
 
-abbrev pub bearer-link : Field B.the_type B'.the_laws B'.the_plain link
-bearer-link = record {
+abbrev pub bearer_link : Field B.the_type B'.the_laws B'.the_plain link
+bearer_link = record {
   index = 1;
   place = _;
   lies_at = refl;

@@ -11,7 +11,7 @@ use denote.RattleType.{RattleType}
 use denote.Laws.{Is, Tells, Lawful, Makes, Typed}
 use denote.Memory.{lone}
 use denote.Exit.{yes, Last, left}
-use denote.Plain.{UInt, uint_tells, uint_lawful, uint_makes}
+use denote.Plain.{UInt, uint_Tells, uint_Lawful, uint_Makes}
 use denote.Struct.Declared.{Declared, row, fields}
 use denote.Struct.Struct.{Plains}
 use denote.Struct.Laws as LL
@@ -32,7 +32,7 @@ pub typed : {R : RattleType} (D : Data R) {M : Type 1} {𝓤 : Ura M} (𝓛 : Lo
 typed {R} D 𝓛 x v is = (subst (λ (τs : List Ty). Typed τs (v ∷ [])) D.one ((D.lawful 𝓛).typed x (v ∷ []) is)).0
 
 abbrev pub uint : (w : Width) → Data (UInt w)
-uint w = record { one = refl; val = λ n. vint w n; tells = uint_tells w; lawful = λ 𝓛. uint_lawful 𝓛 w; makes = λ 𝓛. uint_makes 𝓛 w; last = λ x. tt; silent = λ x f. refl }
+uint w = record { one = refl; val = λ n. vint w n; tells = uint_Tells w; lawful = λ 𝓛. uint_Lawful 𝓛 w; makes = λ 𝓛. uint_Makes 𝓛 w; last = λ x. tt; silent = λ x f. refl }
 
 -- a declared struct, at its generated laws; the last two are `λ x. tt` and `λ x f. refl`
 abbrev pub struct : (T : Declared) (L : LL.Laws T) → Plains (fields T) → ((x : T.D) → Last ((row T).exit yes) x) → ((x : T.D) (f : Last ((row T).exit yes) x) → left ((row T).exit yes) x f ≡ ftrue) → Data (row T)

@@ -47,7 +47,7 @@ module _ {M : Type 1} {𝓤 : Ura M} (𝓛 : Logic 𝓤) where
   well (flag b) = (tt, tt)
 
 module _ {M : Type 1} {𝓤 : Ura M} {𝓛 : Logic 𝓤} {K : Type 0} {Γ : List (Item 𝓤)} {E : Env 𝓤 𝓛.H} where
-  pub of-lit : K → (ℓ : Lit) → Opd K 𝓛 Γ E (written ℓ) (value ℓ)
-  of-lit t (number w m small) = lit t small
-  of-lit t (flag true) = true_lit t
-  of-lit t (flag false) = false_lit t
+  pub of_lit : K → (ℓ : Lit) → Opd K 𝓛 Γ E (written ℓ) (value ℓ)
+  of_lit t (number w m small) = lit t small
+  of_lit t (flag true) = true_lit t
+  of_lit t (flag false) = false_lit t

@@ -4,10 +4,9 @@ use Prim.Native.Nat.{ℕ, zero}
 use mathlib.Core.Option.{some as found}
 use mathlib.Core.List.{[], ◌∷◌, List}
 use seplogic.Ra.Ura.{Ura}
-use seplogic.Ra.TreeShare.{full_share}
-use mir.Syntax.{Ty, Fn, Body as Code, named, mut, ty_unit, ty_ref, place, deref, field, copy, opd_unit, rv_opd, seq, assign, return, value_local, local}
+use base.Fraction.{full_share}
+use mir.Syntax.{Ty, Fn, named, mut, ty_unit, ty_ref, place, deref, field, copy, opd_unit, rv_opd, seq, assign, return, value_local, local}
 use mir.Fields.{set_v}
-use mir.Raw.{raw as raw_ty}
 use mir.Val.{Val, Vals, vunit, vptr, vstruct, of_list}
 use base.Logic.{SProp, ent, sep, emp, via, fst∗}
 use base.Fml.{GName, Lft, Share, ftrue, flft, fobs, fbor, fat}
@@ -25,20 +24,20 @@ use denote.RattleType.{RattleType, owns, flat, mirs}
 use denote.Laws.{Is, shows, valss}
 use denote.Memory.{mem, lone, pointee, part_at}
 use denote.Builtin.{unit}
-use denote.Ref.{MutBor, MutRef, mut_vals, mut_tells}
+use denote.Ref.{MutBor, MutRef, mut_vals, mut_Tells}
 use denote.Signature.{Signature, plain, mut_ref_to}
 use denote.Steps.{owned, peeks, nothing, only}
 use denote.Triple.Entry.{on_entry}
 use denote.Triple.Spec.{Meets}
 use denote.Triple.Clauses.{Clauses, Ended, closing}
-use denote.Triple.Walked.{says, Stays, stay_ref, stay_none, walk_of, Goes-none, Goes-ref, ends_at, walked, walk_meets}
+use denote.Triple.Walked.{says, Stays, stay_ref, stay_none, walk_of, Goes-none, Goes-ref, ends_at, walked, walk_Meets}
 use denote.Exit.{yes}
 use denote.Struct.Declared.{Declared, fields, shape, row}
 use denote.Struct.Struct.{Plains, AreAll, layout, to_tys}
 use denote.Struct.Laws as LL
 use borrow.Table.OneValue.{part_out_at, part_in_at}
 use Rattle.link_record_laws.proofs.Data.{Data, typed}
-use Rattle.link_record_laws.proofs.Lit.{Lit, kind, value, written, Fits, fits, well, of-lit}
+use Rattle.link_record_laws.proofs.Lit.{Lit, kind, value, written, Fits, fits, well, of_lit}
 
 -- R is the struct's type and Q the field's. In MIR, R is `ty_struct ν τs`
 module _ (R Q : RattleType) where
@@ -56,6 +55,8 @@ module _ (R Q : RattleType) where
   function τ ℓ₁ ℓ₂ ℓ₃ = record {
     lifetimes = 1;
     outlives = [];
+    ty_params = [];
+    givens = 0;
     params = 2;
     locals = local ty_unit value_local ∷ local (ty_ref (named 0) mut (pointee R.written)) value_local ∷ local (lone Q.mir) value_local ∷ [];
     body =
@@ -128,9 +129,9 @@ module _ (T : Declared) (L : LL.Laws T) (P : Plains (fields T)) {Q : RattleType}
             move ! (1 ∷ []) $ peeks ! R (Is R) (shows 𝓛 R) h (v ∷ []) (λ g. drop ! $ rewrite ! 0 (λ (u : Val). ‵ (fat full_share δ b o u)) (ap only (LL.tells T L h (v ∷ []) g)) refl $
             -- [the struct's cell; the open borrow; obs; auth; _2; …; _1; …; room for _0; …]
             assigns ! (of_opd ! (load ! (from ! (stop !)) (look ! 4 refl))) (from ! (hop ! (look ! 6 refl) (fld ! lies₀ (stop !)))) (store_in ! 0 (sub ! 0 lies₀ (whole !)) (typed E 𝓛 n _ gn)) $
-            assigns ! (of_opd ! (of-lit ! ℓ₁)) (from ! (hop ! (look ! 6 refl) (fld ! lies₁ (stop !)))) (store_in ! 0 (sub ! 1 lies₁ (whole !)) (well 𝓛 ℓ₁)) $
-            assigns ! (of_opd ! (of-lit ! ℓ₂)) (from ! (hop ! (look ! 6 refl) (fld ! lies₂ (stop !)))) (store_in ! 0 (sub ! 2 lies₂ (whole !)) (well 𝓛 ℓ₂)) $
-            assigns ! (of_opd ! (of-lit ! ℓ₃)) (from ! (hop ! (look ! 6 refl) (fld ! lies₃ (stop !)))) (store_in ! 0 (sub ! 3 lies₃ (whole !)) (well 𝓛 ℓ₃)) $
+            assigns ! (of_opd ! (of_lit ! ℓ₁)) (from ! (hop ! (look ! 6 refl) (fld ! lies₁ (stop !)))) (store_in ! 0 (sub ! 1 lies₁ (whole !)) (well 𝓛 ℓ₁)) $
+            assigns ! (of_opd ! (of_lit ! ℓ₂)) (from ! (hop ! (look ! 6 refl) (fld ! lies₂ (stop !)))) (store_in ! 0 (sub ! 2 lies₂ (whole !)) (well 𝓛 ℓ₂)) $
+            assigns ! (of_opd ! (of_lit ! ℓ₃)) (from ! (hop ! (look ! 6 refl) (fld ! lies₃ (stop !)))) (store_in ! 0 (sub ! 3 lies₃ (whole !)) (well 𝓛 ℓ₃)) $
             assigns ! (of_opd ! (unit_lit !)) (from ! (stop !)) (init ! 8 refl (tt, tt)) $
             rewrite ! 0 (λ (u : Val). ‵ (fat full_share δ b o u)) (stored h n) refl $
             owned ! R (Is R) (LL.makes T P 𝓛) h' _ (LL.owes T L h' (again h n gn (fits ℓ₁) (fits ℓ₂) (fits ℓ₃))) $ move ! (1 ∷ 0 ∷ []) $
@@ -140,6 +141,6 @@ module _ (T : Declared) (L : LL.Laws T) (P : Plains (fields T)) {Q : RattleType}
 
     pub renews : {M : Type 1} {𝓤 : Ura M} (𝓛 : Logic 𝓤) → (𝓣 : Tables 𝓤 𝓛.H) → Meets 𝓛 (signature R Q) (WpFn 𝓤 𝓛.H 𝓣.C 𝓣.Λ fn) (closing 𝓛 (ended R Q) (clauses R Q change 𝓤))
     renews {𝓤 = 𝓤} 𝓛 𝓣 =
-        walk_meets 𝓛 (ended R Q) (stayed R Q) (Goes-ref 𝓛 1 0 tt (plain (λ _. R)), (Goes-none 𝓛 1 (λ _. Q) yes (λ κs. E.silent), tt)) (clauses R Q change 𝓤) (WpFn 𝓤 𝓛.H 𝓣.C 𝓣.Λ fn) (WpFn-mono 𝓤 𝓛.H 𝓛.laws 𝓣 fn)
-        (walked 𝓛 (ended R Q) (stayed R Q) (clauses R Q change 𝓤) (WpFn 𝓤 𝓛.H 𝓣.C 𝓣.Λ fn) (λ κs. (mut_vals, ((λ y. E.val y ∷ []), tt))) (λ κs. (mut_tells (named 0) κs.0 R, (E.tells, tt)))
-        (λ κs qs bounds a _ are. via 𝓤 _ (fst∗ 𝓤 _ (emp 𝓤)) (walk 𝓛 κs.0 qs.0 a.0.ptr.0 a.0.ptr.1 a.0.name a.0.now a.1.0 are.1.0 𝓣.C 𝓣.Λ)))
+        walk_Meets 𝓛 (ended R Q) (stayed R Q) (Goes-ref 𝓛 1 0 tt (plain (λ _. R)), (Goes-none 𝓛 1 (λ _. Q) yes (λ κs. E.silent), tt)) (clauses R Q change 𝓤) (WpFn 𝓤 𝓛.H 𝓣.C 𝓣.Λ fn) (WpFn-mono 𝓤 𝓛.H 𝓛.laws 𝓣 fn)
+        (walked 𝓛 (ended R Q) (stayed R Q) (clauses R Q change 𝓤) (WpFn 𝓤 𝓛.H 𝓣.C 𝓣.Λ fn) (λ κs. (mut_vals, ((λ y. E.val y ∷ []), tt))) (λ κs. (mut_Tells (named 0) κs.0 R, (E.tells, tt)))
+        (λ κs qs bounds a _ are. via 𝓤 _ (fst∗ 𝓤 _ (emp 𝓤)) (walk 𝓛 κs.0 qs.0 a.0.ref_ptr.0 a.0.ref_ptr.1 a.0.ghost_name a.0.now a.1.0 are.1.0 𝓣.C 𝓣.Λ)))

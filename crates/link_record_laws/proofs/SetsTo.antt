@@ -4,10 +4,9 @@ use Prim.Native.Nat.{ℕ, zero}
 use mathlib.Core.Option.{some as found}
 use mathlib.Core.List.{[], ◌∷◌, List}
 use seplogic.Ra.Ura.{Ura}
-use seplogic.Ra.TreeShare.{full_share}
-use mir.Syntax.{Ty, Fn, Body as Code, named, mut, ty_unit, ty_ref, place, deref, field, opd_unit, rv_opd, seq, assign, return, value_local, local}
+use base.Fraction.{full_share}
+use mir.Syntax.{Ty, Fn, named, mut, ty_unit, ty_ref, place, deref, field, opd_unit, rv_opd, seq, assign, return, value_local, local}
 use mir.Fields.{set_v}
-use mir.Raw.{raw as raw_ty}
 use mir.Val.{Val, Vals, vunit, vptr, vstruct, of_list}
 use base.Logic.{SProp, ent, sep, emp, via, fst∗}
 use base.Fml.{GName, Lft, Share, ftrue, flft, fobs, fbor, fat}
@@ -25,19 +24,19 @@ use denote.RattleType.{RattleType, owns, flat, mirs}
 use denote.Laws.{Is, shows, valss}
 use denote.Memory.{mem, pointee, part_at}
 use denote.Builtin.{unit}
-use denote.Ref.{MutBor, MutRef, mut_vals, mut_tells}
+use denote.Ref.{MutBor, MutRef, mut_vals, mut_Tells}
 use denote.Signature.{Signature, plain, mut_ref_to}
 use denote.Steps.{owned, peeks, nothing, only}
 use denote.Triple.Entry.{on_entry}
 use denote.Triple.Spec.{Meets}
 use denote.Triple.Clauses.{Clauses, Ended, closing}
-use denote.Triple.Walked.{says, Stays, stay_ref, walk_of, Goes-ref, ends_at, walked, walk_meets}
+use denote.Triple.Walked.{says, Stays, stay_ref, walk_of, Goes-ref, ends_at, walked, walk_Meets}
 use denote.Exit.{yes}
 use denote.Struct.Declared.{Declared, fields, shape, row}
 use denote.Struct.Struct.{Plains, AreAll, layout, to_tys}
 use denote.Struct.Laws as LL
 use borrow.Table.OneValue.{part_out_at, part_in_at}
-use Rattle.link_record_laws.proofs.Lit.{Lit, kind, value, written, Fits, fits, well, of-lit}
+use Rattle.link_record_laws.proofs.Lit.{Lit, kind, value, written, Fits, fits, well, of_lit}
 
 -- R is the struct's type and Q the field's. In MIR, R is `ty_struct ν τs`
 module _ (R : RattleType) where
@@ -55,6 +54,8 @@ module _ (R : RattleType) where
   function τ i ℓ = record {
     lifetimes = 1;
     outlives = [];
+    ty_params = [];
+    givens = 0;
     params = 1;
     locals = local ty_unit value_local ∷ local (ty_ref (named 0) mut (pointee R.written)) value_local ∷ [];
     body = seq (assign (place 1 (deref τ ∷ field i ∷ [])) (rv_opd (written ℓ))) (seq (assign (place 0 []) (rv_opd opd_unit)) return);
@@ -75,7 +76,7 @@ module _ (T : Declared) (L : LL.Laws T) (P : Plains (fields T)) (i : ℕ) (ℓ :
   abbrev parts : T.D → Vals
   parts h = of_list (flat (fields T) (valss (fields T) (LL.spells T.parts L) (T.to h)))
 
-  module _ {d : ℕ} (lies_at_lem : field_at zero (to_tys (mirs (fields T))) i ≡ found (kind ℓ, d)) (stored : (h : T.D) → vstruct (set_v (parts h) i (value ℓ)) ≡ LL.val T L (change h)) (again : (h : T.D) → Fields h → Fits ℓ → Fields (change h)) where
+  module _ {d : ℕ} (lies_at : field_at zero (to_tys (mirs (fields T))) i ≡ found (kind ℓ, d)) (stored : (h : T.D) → vstruct (set_v (parts h) i (value ℓ)) ≡ LL.val T L (change h)) (again : (h : T.D) → Fields h → Fits ℓ → Fields (change h)) where
     abbrev δ : Ty
     δ = layout (shape T)
 
@@ -118,7 +119,7 @@ module _ (T : Declared) (L : LL.Laws T) (P : Plains (fields T)) (i : ℕ) (ℓ :
             use1 𝓛 (some (λ (v : Val). ‵ (fat full_share δ b o v) ⊛ ‵ (R.own_val h (v ∷ [])))) (part_out_at 𝓛 R refl full_share h b o δ refl) $ pick ! (λ v. split ! $
             move ! (1 ∷ []) $ peeks ! R (Is R) (shows 𝓛 R) h (v ∷ []) (λ g. drop ! $ rewrite ! 0 (λ (u : Val). ‵ (fat full_share δ b o u)) (ap only (LL.tells T L h (v ∷ []) g)) refl $
             -- [the struct's cell; the open borrow; obs; auth; _1; …; room for _0; …]
-            assigns ! (of_opd ! (of-lit ! ℓ)) (from ! (hop ! (look ! 4 refl) (fld ! lies_at_lem (stop !)))) (store_in ! 0 (sub ! i lies_at_lem (whole !)) (well 𝓛 ℓ)) $
+            assigns ! (of_opd ! (of_lit ! ℓ)) (from ! (hop ! (look ! 4 refl) (fld ! lies_at (stop !)))) (store_in ! 0 (sub ! i lies_at (whole !)) (well 𝓛 ℓ)) $
             assigns ! (of_opd ! (unit_lit !)) (from ! (stop !)) (init ! 6 refl (tt, tt)) $
             rewrite ! 0 (λ (u : Val). ‵ (fat full_share δ b o u)) (stored h) refl $
             owned ! R (Is R) (LL.makes T P 𝓛) h' _ (LL.owes T L h' (again h (LL.owed T L h _ g) (fits ℓ))) $ move ! (1 ∷ 0 ∷ []) $
@@ -126,8 +127,8 @@ module _ (T : Declared) (L : LL.Laws T) (P : Plains (fields T)) (i : ℕ) (ℓ :
             returns ! (look ! 5 refl) $ forget ! 3 refl $ forget ! 5 refl $ move ! (5 ∷ 6 ∷ []) $ free1 ! $ move ! (3 ∷ 4 ∷ []) $ free1 ! $ free0 ! $
             keep ! (0 ∷ 1 ∷ 2 ∷ []) $ by ! exits))))
 
-    pub sets-to : {M : Type 1} {𝓤 : Ura M} (𝓛 : Logic 𝓤) → (𝓣 : Tables 𝓤 𝓛.H) → Meets 𝓛 (signature R) (WpFn 𝓤 𝓛.H 𝓣.C 𝓣.Λ fn) (closing 𝓛 (ended R) (clauses R change 𝓤))
-    sets-to {𝓤 = 𝓤} 𝓛 𝓣 =
-        walk_meets 𝓛 (ended R) (stayed R) (Goes-ref 𝓛 1 0 tt (plain (λ _. R)), tt) (clauses R change 𝓤) (WpFn 𝓤 𝓛.H 𝓣.C 𝓣.Λ fn) (WpFn-mono 𝓤 𝓛.H 𝓛.laws 𝓣 fn)
-        (walked 𝓛 (ended R) (stayed R) (clauses R change 𝓤) (WpFn 𝓤 𝓛.H 𝓣.C 𝓣.Λ fn) (λ κs. (mut_vals, tt)) (λ κs. (mut_tells (named 0) κs.0 R, tt))
-        (λ κs qs bounds a _ are. via 𝓤 _ (fst∗ 𝓤 _ (emp 𝓤)) (walk 𝓛 κs.0 qs.0 a.0.ptr.0 a.0.ptr.1 a.0.name a.0.now 𝓣.C 𝓣.Λ)))
+    pub sets_to : {M : Type 1} {𝓤 : Ura M} (𝓛 : Logic 𝓤) → (𝓣 : Tables 𝓤 𝓛.H) → Meets 𝓛 (signature R) (WpFn 𝓤 𝓛.H 𝓣.C 𝓣.Λ fn) (closing 𝓛 (ended R) (clauses R change 𝓤))
+    sets_to {𝓤 = 𝓤} 𝓛 𝓣 =
+        walk_Meets 𝓛 (ended R) (stayed R) (Goes-ref 𝓛 1 0 tt (plain (λ _. R)), tt) (clauses R change 𝓤) (WpFn 𝓤 𝓛.H 𝓣.C 𝓣.Λ fn) (WpFn-mono 𝓤 𝓛.H 𝓛.laws 𝓣 fn)
+        (walked 𝓛 (ended R) (stayed R) (clauses R change 𝓤) (WpFn 𝓤 𝓛.H 𝓣.C 𝓣.Λ fn) (λ κs. (mut_vals, tt)) (λ κs. (mut_Tells (named 0) κs.0 R, tt))
+        (λ κs qs bounds a _ are. via 𝓤 _ (fst∗ 𝓤 _ (emp 𝓤)) (walk 𝓛 κs.0 qs.0 a.0.ref_ptr.0 a.0.ref_ptr.1 a.0.ghost_name a.0.now 𝓣.C 𝓣.Λ)))

@@ -1,5 +1,5 @@
 -- Fit goes to fit over every sequence of calls, so none meets refusal 1.
-use Rattle.std.specs.Prelude.{ℕ, ◌≡◌, Bool, true, false, ◌&&◌, List, [], ◌∷◌, length, eqb, leb}
+use Rattle.std.specs.Prelude.{ℕ, ◌≡◌, Bool, true, false, ◌&&◌, List, [], ◌∷◌, ◌++◌, length, eqb, leb}
 use Rattle.std.proofs.Common.{sym, ap, ◌∙◌, arith}
 use Rattle.std.proofs.lemmas.Bool.{false≢true}
 use Rattle.bytes_base.specs.Choice.{pick}
@@ -25,6 +25,7 @@ use Rattle.radio_rules.specs.Hearing as radio
 use Rattle.radio_rules.proofs.Keeps as radio-keeps
 use Rattle.link_rules.specs.Fragment.{gate_fragment, held_fits}
 use Rattle.thm_trail.specs.Calls.{Call, batch, timer, connected, disconnected, advertising, scan_response, fragment, reads, does, left, fresh, run, gate_of}
+use Rattle.thm_trail.specs.Log.{given_by, takes_in}
 pub use Rattle.thm_trail.proofs.Ends.{refusal_is}
 use Rattle.thm_trail.proofs.Goes.{Off, radio-off, response-off}
 use Rattle.thm_accounting.proofs.Books.{Books}
@@ -72,7 +73,7 @@ lasts-call l q h (reads r) t k f = f
 
 lasts-run : (l : List (Valued StepResult)) (q : List Queued) (h : Held) (cs : List Call) → Typed cs → Books l q h → Lasting h.state → Lasting (run h cs).state
 lasts-run l q h [] t k f = f
-lasts-run l q h (c ∷ cs) t k f = lasts-run _ _ (left (does h c)) cs t.1 (books-call l q h c k) (lasts-call l q h c t.0 k f)
+lasts-run l q h (c ∷ cs) t k f = lasts-run (l ++ given_by h c) (q ++ takes_in h c) (left (does h c)) cs t.1 (books-call l q h c k) (lasts-call l q h c t.0 k f)
 
 pub lasting : (options : Options) (store : List ℕ) (cs : List Call) → Typed cs → Lasting (run (fresh options store) cs).state
 lasting options store cs t = lasts-run [] [] (fresh options store) cs t (books-fresh options store) (fresh-lasts options)

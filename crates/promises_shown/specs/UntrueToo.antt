@@ -480,7 +480,7 @@ record TwoDone : Type 0 where
   said-is : get_or (said (run (fresh store) two_done) (result_of 1)) 2 0 ≡ 2
 
 two-done : TwoDone
-unfolding opened readers.result readers.given
+unfolding opened readers.result_answer readers.given
 two-done = record { log_is = refl; first-is = refl; said-is = refl }
 
 two_typed : Typed two_done

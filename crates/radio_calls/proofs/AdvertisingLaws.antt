@@ -6,7 +6,7 @@ use mathlib.Core.List.{List}
 use native.Mathlib.Omega.{arith}
 use lib.ListN.{length, get_or, set}
 use lib.Dec.{eqb, ltb}
-use borrow.Author.Tests.{ne_eqb, eqb-false, not-true, not-false}
+use borrow.Author.Tests.{ne_eqb, eqb-false}
 use Rattle.bytes_base.specs.Choice.{pick}
 use Rattle.bytes_base.proofs.SpliceLaws.{length-splice}
 use Rattle.state_places.specs.Sizes.{store_size, most_keys, report_at}
@@ -66,14 +66,14 @@ pub record Going (c : Central) (s : List ℕ) (v : Adv) (who : ℕ) (new : Bool)
 module _ (c : Central) (s : List ℕ) (v : Adv) where
   pub going_of : (g why who : ℕ) (hears asking new full : Bool)
       → g ≡ gate_quiet c (length s) v.at → why ≡ then_data g (length v.bytes) → why ≡ 0
-      → hears ≡ listens c.running → not hears ≡ false → who ≡ key v.address
+      → hears ≡ listens c.running → hears ≡ true → who ≡ key v.address
       → asking ≡ asks c.running v.pdu → new ≡ (asking && not (among who (asked c.keys)))
       → full ≡ (new && eqb c.keys.count most_keys) → full ≡ false
       → Going c s v who new
   going_of g why who hears asking new full gate then z l h k q d f n =
       record {
         clear = sym (then ∙ rw gate) ∙ z;
-        listening = sym l ∙ not-false hears h;
+        listening = sym l ∙ h;
         keyed = k;
         news = d ∙ rw (q, k);
         room = sym f ∙ n;
@@ -100,9 +100,9 @@ module _ (c : Central) (s : List ℕ) (v : Adv) where
     unfolding refusal
     open-refusal f = rw (clear, f)
 
-    pub quiet-law : (hears : Bool) → hears ≡ listens c.running → not hears ≡ true → unchanged c s 0 ≡ advertised c s v
+    pub quiet-law : (hears : Bool) → hears ≡ listens c.running → hears ≡ false → unchanged c s 0 ≡ advertised c s v
     unfolding advertised
-    quiet-law hears e h = let l : listens c.running ≡ false = sym e ∙ not-true hears h in rw (open-refusal (not-due c v l), l)
+    quiet-law hears e h = let l : listens c.running ≡ false = sym e ∙ h in rw (open-refusal (not-due c v l), l)
 
     pub full-law : (who : ℕ) (asking new full : Bool) → who ≡ key v.address
         → asking ≡ asks c.running v.pdu → new ≡ (asking && not (among who (asked c.keys)))

@@ -4,7 +4,7 @@ use mathlib.Core.Path.{◌≡◌}
 use mathlib.Core.Bool.{Bool, true, false, not}
 use lib.ListN.{take}
 use lib.Dec.{leb}
-use borrow.Author.Tests.{not-true, not-false, lt-leb, le-leb, leb-true}
+use borrow.Author.Tests.{lt-leb, le-leb, leb-true}
 use Rattle.bytes_base.proofs.TestLaws.{fits-less, fits_more}
 use Rattle.lists.specs.Queue.{all}
 use Rattle.state_places.specs.Sizes.{most_steps}
@@ -23,18 +23,18 @@ no_placed = record { step = Scan (record { 0 = 0 }); place = 0; len = 0 }
 -- ---- one step
 
 module _ (size : ℕ) (p : Placed) (a : Bool) (e : a ≡ step_fits p.step p.len) where
-  pub placed-bad : not a ≡ true → false ≡ placed_fits size p
-  placed-bad h = rw (← e, not-true a h)
+  pub placed-bad : a ≡ false → false ≡ placed_fits size p
+  placed-bad h = rw (← e, h)
 
-  module _ (b : Bool) (f : b ≡ carries p.step) (h : not a ≡ false) where
-    pub placed-bare : not b ≡ true → true ≡ placed_fits size p
-    placed-bare k = rw (← e, not-false a h, ← f, not-true b k)
+  module _ (b : Bool) (f : b ≡ carries p.step) (h : a ≡ true) where
+    pub placed-bare : b ≡ false → true ≡ placed_fits size p
+    placed-bare k = rw (← e, h, ← f, k)
 
-    pub placed-long : not b ≡ false → size < p.len → false ≡ placed_fits size p
-    placed-long k g = rw (← e, not-false a h, ← f, not-false b k) (fits_more size p.place p.len g)
+    pub placed-long : b ≡ true → size < p.len → false ≡ placed_fits size p
+    placed-long k g = rw (← e, h, ← f, k) (fits_more size p.place p.len g)
 
-    pub placed-in : not b ≡ false → p.len ≤ size → leb p.place (size - p.len) ≡ placed_fits size p
-    placed-in k g = rw (← e, not-false a h, ← f, not-false b k) (fits-less size p.place p.len g)
+    pub placed-in : b ≡ true → p.len ≤ size → leb p.place (size - p.len) ≡ placed_fits size p
+    placed-in k g = rw (← e, h, ← f, k) (fits-less size p.place p.len g)
 
 -- ---- the batch
 

@@ -6,7 +6,7 @@ use mathlib.Core.List.{List, [], ◌∷◌}
 use native.Mathlib.Omega.{arith}
 use lib.ListN.{take}
 use lib.Dec.{leb}
-use borrow.Author.Tests.{le-leb, not-true, not-false}
+use borrow.Author.Tests.{le-leb}
 use Rattle.bytes_base.specs.Choice.{pick}
 use Rattle.lists.specs.Queue.{all}
 use Rattle.state_places.specs.Sizes.{most_steps, most_results, most_characteristics, most_notifications}
@@ -79,13 +79,13 @@ module _ (c : Core) (w : List ℕ) (h : core_fits c ≡ true) where
 -- ---- what the gates ask: x is what the core's test said
 
 -- of a core that is not fit
-pub refused-core : (c : Core) (w : List ℕ) (x sized timely : Bool) → x ≡ core_fits c → not x ≡ true → ◌≡◌ {A = ℕ} 1 (first_refusal (fits (central c w)) sized timely)
+pub refused-core : (c : Core) (w : List ℕ) (x sized timely : Bool) → x ≡ core_fits c → x ≡ false → ◌≡◌ {A = ℕ} 1 (first_refusal (fits (central c w)) sized timely)
 unfolding first_refusal
-refused-core c w x sized timely e h = rw (← unfit-core c w (sym e ∙ not-true x h)) refl
+refused-core c w x sized timely e h = rw (← unfit-core c w (sym e ∙ h)) refl
 
-module _ (c : Core) (x : Bool) (e : x ≡ core_fits c) (h : not x ≡ false) where
+module _ (c : Core) (x : Bool) (e : x ≡ core_fits c) (h : x ≡ true) where
   fit-core : core_fits c ≡ true
-  fit-core = sym e ∙ not-false x h
+  fit-core = sym e ∙ h
 
   pub counts-fit : (c.counts.waiting ≤ most_steps) × (c.counts.results ≤ most_results)
       × (c.counts.characteristics ≤ most_characteristics) × (c.counts.notifications ≤ most_notifications)

@@ -44,7 +44,7 @@ use Rattle.thm_accounting.proofs.Gives.{Gives, nothing, one, Whole, finish-pushe
 use Rattle.thm_accounting.proofs.Starts.{gives-ends, gives-start}
 use Rattle.thm_accounting.proofs.Channels.{gives-channel}
 use Rattle.thm_accounting.proofs.Books.{Books, none-gave, gave-pushed, kept-take, whole_take, whole, sound-hop, books-hop}
-use Rattle.thm_requests.specs.Events.{Event, came, asked, asked_in, news_of, results_of}
+use Rattle.thm_requests.specs.Events.{Event, asked, asked_in, news_of, results_of}
 use Rattle.thm_requests.proofs.Along.{events_in, events_along}
 use Rattle.thm_requests.proofs.Asks.{As, itself, Reply, mute, replies, voiced, Asking, Asks, calm, none as unawaited, asks}
 use Rattle.thm_requests.proofs.Starts.{asks-start}

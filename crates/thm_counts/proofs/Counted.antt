@@ -2,7 +2,7 @@
 use Prim.Native.Nat.{ℕ, ◌+◌}
 use mathlib.Core.Path.{◌≡◌, refl, sym, ap, subst}
 use mathlib.Core.Bool.{Bool, true, false}
-use mathlib.Core.List.{List, [], ◌∷◌}
+use mathlib.Core.List.{List, [], ◌∷◌, ◌++◌}
 use native.Mathlib.Omega.{arith}
 use lib.ListN.{length, length-append}
 use lib.Dec.{eqb}
@@ -24,7 +24,7 @@ use Rattle.script_rules.proofs.CallLaws.{passed-batch}
 use Rattle.link_rules.specs.Fragment as link
 use Rattle.thm_trail.specs.Calls.{Call, batch, timer, connected, disconnected, advertising, scan_response, fragment, reads, does, left, fresh, run, gate_of, done?}
 use Rattle.thm_trail.specs.Trail.{Pass, begins, goes, final}
-use Rattle.thm_trail.specs.Log.{room_for, takes_in, taken}
+use Rattle.thm_trail.specs.Log.{room_for, given_by, takes_in, taken}
 use Rattle.thm_trail.proofs.Ends.{refused_of, does-law}
 use Rattle.thm_trail.proofs.Hops.{Hop, ended, began, meets, parts, still, acted, Hops, none, more}
 use Rattle.thm_trail.proofs.Goes.{good}
@@ -121,7 +121,7 @@ counted-run l q h [] b = counted_none h h refl
 counted-run l q h (c ∷ cs) b =
     let g = left (does h c) in
     let x = counted-call l q h c b in
-    let y = counted-run _ _ g cs (books-call l q h c b) in
+    let y = counted-run (l ++ given_by h c) (q ++ takes_in h c) g cs (books-call l q h c b) in
     let n = length-append (takes_in h c) (taken g cs) in
     record { notified = omega (arith, x.notified, y.notified); refused = omega (arith, n, x.refused, y.refused); links = omega (arith, x.links, y.links) }
 

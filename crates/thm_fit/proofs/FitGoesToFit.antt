@@ -24,7 +24,7 @@ use Rattle.script_rules.specs.Start.{ends}
 use Rattle.script_rules.specs.declared.Batch.{Batch}
 use Rattle.script_rules.specs.BatchSteps.{steps}
 use Rattle.script_rules.specs.Waiting.{push_all}
-use Rattle.script_rules.specs.Timed.{narrow, Timed}
+use Rattle.script_rules.specs.Timed.{Timed}
 use Rattle.script_rules.specs.Sound.{Sound, Whole}
 use Rattle.script_rules.proofs.KeepTurns.{Stays, then, timed-of, narrow-of, stays-absent}
 use Rattle.script_rules.proofs.KeepWaiting.{push-all-timed}

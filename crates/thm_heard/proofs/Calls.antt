@@ -54,7 +54,7 @@ use Rattle.thm_trail.proofs.Goes.{Off, good, radio-off, radio-below, response-of
 use Rattle.thm_accounting.proofs.Books.{Books, sound-hop, books-hop}
 use Rattle.thm_accounting.proofs.Accounting.{short-value}
 use Rattle.thm_wire.specs.Wire.{channel_of}
-use Rattle.thm_heard.specs.Heard.{Air, silence, link, dropped, joined, whole, payload_of, held_of, frame_of, holds, hears, emptied, after, news}
+use Rattle.thm_heard.specs.Heard.{Air, silence, link, joined, payload_of, held_of, frame_of, holds, hears, emptied, after, news}
 use Rattle.thm_heard.proofs.Keeps.{Keeps, keeps-none, keeps_then, keeps-ends, keeps-take, keeps-start}
 use Rattle.thm_heard.proofs.Channels.{bears-channel}
 use Rattle.thm_heard.proofs.Tied.{Linked, Tied, tied-keeps, linked-bears, dropped-is, linked-gathered, whole_is, channel-is, payload-is, long}

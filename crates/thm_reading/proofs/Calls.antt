@@ -157,11 +157,11 @@ handle-blind c store = ap (λ (g : ℕ). unless g handle-variants.Refused (handl
 pub result-blind : (c : Central) (store index : ℕ) → result_answer c store index ≡ result_answer (live c) store index
 unfolding result_answer
 result-blind c store index = λ i.
-    unless (gate-reader-blind c store i) given-variants.Refused (given index 0 (sym (cut_twice c.results.count c.results.auto) i))
+    unless (gate-reader-blind c store i) given-variants.Refused (given index 0 (sym (cut_twice c.results.count c.results.kept) i))
 
 pub passed-blind : (c : Central) (store index : ℕ) → passed_on c store index ≡ passed_on (live c) store index
 unfolding passed_on
 passed-blind c store index = λ i.
     unless (gate-reader-blind c store i) passed-variants.Refused
-    (named (c.counters.notified - c.notifications.count) (sym (cut_twice c.notifications.count c.notifications.auto) i)
-    (heard_by index (sym (cut_twice c.results.count c.results.auto) i)))
+    (named (c.counters.notified - c.notifications.count) (sym (cut_twice c.notifications.count c.notifications.kept) i)
+    (heard_by index (sym (cut_twice c.results.count c.results.kept) i)))

@@ -62,6 +62,6 @@ dead-places c d p q e =
           (via live live_heard (λ x. radio.scan_responded x store at a bytes) (responded-blind store at a bytes) c d e);
       timer = λ store. via live (λ x. x) (λ x. readers.timer x store) (λ x. timer-blind x store) c d e;
       handle = λ store. via live (λ x. x) (λ x. readers.handle x store) (λ x. handle-blind x store) c d e;
-      result = λ store index. via live (λ x. x) (λ x. readers.result x store index) (λ x. result-blind x store index) c d e;
+      result = λ store index. via live (λ x. x) (λ x. readers.result_answer x store index) (λ x. result-blind x store index) c d e;
       passed_on = λ store index. via live (λ x. x) (λ x. readers.passed_on x store index) (λ x. passed-blind x store index) c d e;
     }

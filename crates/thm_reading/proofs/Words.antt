@@ -37,7 +37,7 @@ spare-bits =
       on_scan_response = λ store at a bytes. one-reading takes (λ c. radio.scan_responded c store at a bytes);
       timer = λ store. one-reading says (λ c. readers.timer c (length store));
       handle = λ store. one-reading says (λ c. readers.handle c (length store));
-      result = λ store index. one-reading says (λ c. readers.result c (length store) index);
+      result = λ store index. one-reading says (λ c. readers.result_answer c (length store) index);
       passed_on = λ store index. one-reading says (λ c. readers.passed_on c (length store) index);
     }
 
@@ -75,7 +75,7 @@ dead-words =
           alike SameHeard takes (λ c. radio.scan_responded c store at a bytes) (λ c d w v e. (answers c d w v e).on_scan_response store at a bytes);
       timer = λ store. alike ◌≡◌ says (λ c. readers.timer c (length store)) (λ c d w v e. (answers c d w v e).timer (length store));
       handle = λ store. alike ◌≡◌ says (λ c. readers.handle c (length store)) (λ c d w v e. (answers c d w v e).handle (length store));
-      result = λ store index. alike ◌≡◌ says (λ c. readers.result c (length store) index) (λ c d w v e. (answers c d w v e).result (length store) index);
+      result = λ store index. alike ◌≡◌ says (λ c. readers.result_answer c (length store) index) (λ c d w v e. (answers c d w v e).result (length store) index);
       passed_on = λ store index.
           alike ◌≡◌ says (λ c. readers.passed_on c (length store) index) (λ c d w v e. (answers c d w v e).passed_on (length store) index);
     }

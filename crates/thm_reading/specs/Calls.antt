@@ -76,7 +76,7 @@ pub record SpareBitsNeverMatter : Type 0 where
   pub on_scan_response : (store : List ℕ) (at : Micros) (a : Address) (bytes : List ℕ) → OneReading takes (λ c. radio.scan_responded c store at a bytes)
   pub timer : (store : List ℕ) → OneReading (says {A = Timer}) (λ c. readers.timer c (length store))
   pub handle : (store : List ℕ) → OneReading (says {A = Handle}) (λ c. readers.handle c (length store))
-  pub result : (store : List ℕ) (index : ℕ) → OneReading (says {A = Given}) (λ c. readers.result c (length store) index)
+  pub result : (store : List ℕ) (index : ℕ) → OneReading (says {A = Given}) (λ c. readers.result_answer c (length store) index)
   pub passed_on : (store : List ℕ) (index : ℕ) → OneReading (says {A = Passed}) (λ c. readers.passed_on c (length store) index)
 
 -- ---- dead places: the same of two states whose readings differ in dead places alone
@@ -101,5 +101,5 @@ pub record DeadWordsNeverMatter : Type 0 where
       → AlikeReadings SameHeard takes (λ c. radio.scan_responded c store at a bytes)
   pub timer : (store : List ℕ) → AlikeReadings ◌≡◌ (says {A = Timer}) (λ c. readers.timer c (length store))
   pub handle : (store : List ℕ) → AlikeReadings ◌≡◌ (says {A = Handle}) (λ c. readers.handle c (length store))
-  pub result : (store : List ℕ) (index : ℕ) → AlikeReadings ◌≡◌ (says {A = Given}) (λ c. readers.result c (length store) index)
+  pub result : (store : List ℕ) (index : ℕ) → AlikeReadings ◌≡◌ (says {A = Given}) (λ c. readers.result_answer c (length store) index)
   pub passed_on : (store : List ℕ) (index : ℕ) → AlikeReadings ◌≡◌ (says {A = Passed}) (λ c. readers.passed_on c (length store) index)

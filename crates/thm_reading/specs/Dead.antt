@@ -32,7 +32,7 @@ pub record AnswersAlike (c d : Central) : Type 0 where
       → SameHeard (radio.scan_responded c store at a bytes) (radio.scan_responded d store at a bytes)
   pub timer : (store : ℕ) → readers.timer c store ≡ readers.timer d store
   pub handle : (store : ℕ) → readers.handle c store ≡ readers.handle d store
-  pub result : (store index : ℕ) → readers.result c store index ≡ readers.result d store index
+  pub result : (store index : ℕ) → readers.result_answer c store index ≡ readers.result_answer d store index
   pub passed_on : (store index : ℕ) → readers.passed_on c store index ≡ readers.passed_on d store index
 
 abbrev pub DeadPlacesNeverMatter : Type 0

@@ -8,7 +8,6 @@ use lib.ListN.{length, get_or}
 use lib.Dec.{eqb, ltb, leb}
 use Rattle.bytes_base.specs.Choice.{pick, among}
 use Rattle.bytes_base.specs.Bytes.{le_at}
-use Rattle.lists.specs.Blocks.{bytes}
 use Rattle.time.specs.declared.Micros.{Micros}
 use Rattle.l2cap.specs.Numbers.{cid_att, cid_signaling, cid_smp}
 use Rattle.att_pdu.specs.Numbers.{op_error_rsp, op_exchange_mtu_req, op_handle_value_ntf, op_handle_value_ind, op_read_rsp, op_write_rsp, err_invalid_handle, err_request_not_supported, err_attribute_not_found}

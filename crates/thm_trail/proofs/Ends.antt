@@ -14,7 +14,6 @@ use Rattle.state_rules.specs.Refusals.{accepted}
 use Rattle.script_rules.specs.World.{Held, World, on_held, on_state}
 use Rattle.script_rules.specs.Start.{ends}
 use Rattle.script_rules.specs.Script.{can_go, step_once, advances, advance}
-use Rattle.script_rules.specs.Unlinked.{advance_unlinked}
 use Rattle.script_rules.proofs.UnlinkedLaws.{present-finish, advance-unlinked}
 use Rattle.script_rules.specs.Outcome.{Outcome, done, refused, quietly, quietly_refused}
 use Rattle.script_rules.specs.Batch.{push_steps}

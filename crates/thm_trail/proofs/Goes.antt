@@ -24,8 +24,8 @@ use Rattle.state_kinds.specs.Kinds.{is_disconnect}
 use Rattle.state_rules.specs.Refusals.{accepted, keys_full}
 use Rattle.state_rules.specs.Fit.{most_links}
 use Rattle.state_rules.specs.Facts.{Fit}
-use Rattle.state_rules.specs.Gate.{gate, gate_quiet}
-use Rattle.state_rules.proofs.GateLaws.{passed, passed-quiet, passed-reader}
+use Rattle.state_rules.specs.Gate.{gate_quiet}
+use Rattle.state_rules.proofs.GateLaws.{passed-quiet, passed-reader}
 use Rattle.script_rules.specs.World.{Held, World, on_held, on_state}
 use Rattle.script_rules.specs.Start.{ends}
 use Rattle.script_rules.specs.Nearly.{Nearly}

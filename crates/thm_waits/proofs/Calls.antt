@@ -1,12 +1,12 @@
 -- What each call gives, and what it leaves of all that waits go by.
-use Prim.Native.Nat.{ℕ, zero, suc, ◌+◌, ◌-◌, ◌≤◌, ◌<◌}
+use Prim.Native.Nat.{ℕ, suc, ◌+◌, ◌-◌, ◌≤◌, ◌<◌}
 use mathlib.Core.Path.{◌≡◌, refl, sym, ap, ◌∙◌, subst}
 use mathlib.Core.Bool.{Bool, true, false, ◌||◌}
 use mathlib.Core.List.{List, [], ◌∷◌, ◌++◌, append-nil}
 use native.Mathlib.Omega.{arith}
-use lib.ListN.{length, take, drop, length-append}
+use lib.ListN.{length, take}
 use lib.Seq.{drop-append-le}
-use lib.Dec.{eqb, ltb}
+use lib.Dec.{ltb}
 use borrow.Author.Tests.{eqb-true, ltb-true}
 use Rattle.bytes_base.specs.Choice.{pick}
 use Rattle.bytes_base.specs.Splice.{splice}
@@ -21,9 +21,8 @@ use Rattle.notifications.specs.declared.Notification.{Notification}
 use Rattle.state.specs.Central.{with_queue, with_counters}
 use Rattle.state.specs.declared.Queued.{Queued}
 use Rattle.state.specs.declared.StepResult.{StepResult}
-use Rattle.state.specs.declared.StepStatus.{StepStatus}
 use Rattle.state.specs.declared.StepStatus.TheVariants.{Ok}
-use Rattle.state_rules.specs.Refusals.{accepted, long_frame}
+use Rattle.state_rules.specs.Refusals.{accepted}
 use Rattle.state_rules.proofs.GateLaws.{passed, passed-quiet}
 use Rattle.script_rules.specs.World.{Held, World, on_held, on_state}
 use Rattle.script_rules.specs.declared.Placed.{Placed}
@@ -47,21 +46,18 @@ use Rattle.thm_trail.specs.Calls.{Call, batch, timer, connected, disconnected, a
 use Rattle.thm_trail.specs.Trail.{News, link-came, link-went, Pass, pass, final, begins, goes, met, parted, onward, then_onward, came_on, timer_trail, connected_trail, disconnected_trail, fragment_trail}
 use Rattle.thm_trail.specs.Log.{gave, given_in, queued_all, room_for}
 use Rattle.thm_trail.proofs.Hops.{Still, still-values, Open, Hop, still, Hops, more, AllAt, onward-hops}
-use Rattle.thm_trail.proofs.Goes.{Good, good, shown, still-gathered, still-emptied}
-use Rattle.thm_accounting.specs.InLine.{in_line}
+use Rattle.thm_trail.proofs.Goes.{good, shown, still-gathered, still-emptied}
 use Rattle.thm_accounting.proofs.Gives.{kept-values}
 use Rattle.thm_accounting.proofs.Books.{Books, whole, none-gave, sound-hop, books-hop}
 use Rattle.thm_accounting.proofs.Accounting.{short-value, books-begins}
-use Rattle.thm_heard.specs.Heard.{Air, news}
 use Rattle.thm_heard.proofs.Tied.{Tied}
 use Rattle.thm_heard.proofs.Brings.{Quiet, news_along, brings-quiet, quiet-onward}
 use Rattle.thm_heard.proofs.Calls.{hearing}
-use Rattle.thm_waits.specs.Notices.{notices_in, links_by, Brought, brings}
+use Rattle.thm_waits.specs.Notices.{notices_in, Brought, brings}
 use Rattle.thm_waits.specs.Waits.{passed_in, values_at, values_for}
 use Rattle.thm_waits.proofs.Counting.{Each, each_append}
 use Rattle.thm_waits.proofs.Ears.{Ear, ear-same}
-use Rattle.thm_waits.proofs.Line.{Small, small-drop, line_values, Line, push-all, small-queued}
-use Rattle.thm_waits.proofs.Turns.{Fact}
+use Rattle.thm_waits.proofs.Line.{Small, small-drop, Line, push-all, small-queued}
 use Rattle.thm_waits.proofs.Trails.{Going, Went, went-quiet, went-acted, went_then, went-hops}
 
 -- ---- a batch goes in: the values of steps stand below the notifications

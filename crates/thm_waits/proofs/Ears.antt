@@ -1,6 +1,6 @@
 -- What waits go by, along a sequence of calls: the notifications that are kept, how many were heard, where a wait counts from, the links.
 use Prim.Native.Nat.{ℕ, zero, suc, ◌+◌, ◌-◌, ◌*◌, ◌≤◌, ◌<◌}
-use mathlib.Core.Path.{◌≡◌, refl, sym, ap, ap₂, ◌∙◌, subst}
+use mathlib.Core.Path.{◌≡◌, refl, sym, ap, ap₂, ◌∙◌}
 use mathlib.Core.Bool.{Bool, true, false}
 use mathlib.Core.List.{List, [], ◌∷◌, ◌++◌}
 use native.Mathlib.Omega.{arith}
@@ -30,7 +30,7 @@ use Rattle.state.specs.declared.StepStatus.TheVariants.{Ok}
 use Rattle.script_rules.specs.World.{Held, on_state}
 use Rattle.script_rules.specs.Finish.{result_part, ended, finish}
 use Rattle.script_rules.specs.Waiting.{take_step}
-use Rattle.script_rules.specs.Wait.{passed, passing, wanted, passed_on}
+use Rattle.script_rules.specs.Wait.{passed, passing}
 use Rattle.notifications.specs.declared.Wanted.{Wanted}
 use Rattle.link_rules.specs.Payload.{payload_at, payload_size, payload}
 use Rattle.link_rules.specs.Replies.{keep_one}

@@ -1,6 +1,6 @@
 -- Over every sequence of calls from a fresh state, with any store, refused calls included: what waits go by, from the calls alone.
 use Prim.Native.Nat.{ℕ, zero, suc, ◌+◌, ◌<◌}
-use mathlib.Core.Path.{◌≡◌, refl, sym, ap, ap₂, ◌∙◌, subst}
+use mathlib.Core.Path.{◌≡◌, refl, sym, ap, ◌∙◌, subst}
 use mathlib.Core.Bool.{Bool, true, false, false≢true}
 use mathlib.Core.List.{List, [], ◌∷◌, ◌++◌, append-nil, append_assoc}
 use native.Mathlib.Omega.{arith}
@@ -31,7 +31,7 @@ use Rattle.thm_trail.specs.Trail.{News, begins, goes, final}
 use Rattle.thm_trail.specs.Log.{no_valued, given_in, given_by, log, room_for, takes_in, taken}
 use Rattle.thm_trail.proofs.Ends.{refused_of, does-law, refusal_is}
 use Rattle.thm_accounting.proofs.Accounting.{books-fresh, books-call, taken-snoc}
-use Rattle.thm_heard.specs.Heard.{Air, silence, link, news}
+use Rattle.thm_heard.specs.Heard.{Air, silence, link}
 use Rattle.thm_heard.proofs.Tied.{Tied}
 use Rattle.thm_heard.proofs.Calls.{news-refused}
 use Rattle.thm_heard.proofs.Sequences.{tied-run}
@@ -41,7 +41,7 @@ use Rattle.thm_waits.specs.Waits.{passed_in, wait_from_by, wait_from, values_for
 use Rattle.thm_waits.proofs.Counting.{Each}
 use Rattle.thm_waits.proofs.Ears.{Ear, ear-same}
 use Rattle.thm_waits.proofs.Line.{Small, line_values, Line}
-use Rattle.thm_waits.proofs.Turns.{Counted, Fact}
+use Rattle.thm_waits.proofs.Turns.{Fact}
 use Rattle.thm_waits.proofs.Calls.{Between, many-for, small-more, Moment, did}
 
 -- ---- a call that is refused
@@ -170,10 +170,12 @@ reach B F P l q vs h (c ∷ cs) i =
     let g = left (does h c) in
     let b = brought_by B h (c ∷ cs) in
     let n = wait_from_by F q B h (c ∷ cs) in
+    let now = brings B c (does h c).refusal in
+    let F' = pick (passed_in (q ++ takes_in h c) (given_by h c)) (length now.notices) F in
     subst (λ (t : List (Valued StepResult)). Reached b n t (q ++ taken h (c ∷ cs)) (vs ++ values_of h (c ∷ cs)) (run g cs)) (append_assoc l (given_by h c) (log g cs))
     (subst (λ (t : List Queued). Reached b n ((l ++ given_by h c) ++ log g cs) t (vs ++ values_of h (c ∷ cs)) (run g cs)) (append_assoc q (takes_in h c) (taken g cs))
     (subst (λ (t : List (List ℕ)). Reached b n ((l ++ given_by h c) ++ log g cs) ((q ++ takes_in h c) ++ taken g cs) t (run g cs)) (append_assoc vs (values_in h c) (values_of g cs))
-    (reach _ _ _ _ _ _ g cs (call B F P l q vs h c i))))
+    (reach now F' (leaves B F P l q vs h c i).P (l ++ given_by h c) (q ++ takes_in h c) (vs ++ values_in h c) g cs (call B F P l q vs h c i))))
 
 -- one call more
 brought-snoc : (b : Brought) (h : Held) (cs : List Call) (c : Call) → brings (brought_by b h cs) c (does (run h cs) c).refusal ≡ brought_by b h (cs ++ (c ∷ []))

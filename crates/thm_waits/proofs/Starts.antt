@@ -41,7 +41,7 @@ use Rattle.script_rules.specs.declared.Awaited.TheVariants as awaited-variants
 use Rattle.script_rules.specs.Wait.{wanted, wait_passes, passing, check_one, awaited, check_for, check_wait}
 use Rattle.script_rules.specs.Start.{ends, waits_for, unlinked_step, start_alone, start_unlinked, forgotten, discover_in, subscribe_at, subscribe, commanded, write, read, terminated, asks_to, disconnect, start_linked, barred, start_on, start}
 use Rattle.thm_waits.specs.Waits.{is_wait_notification}
-use Rattle.thm_waits.proofs.Leads.{Other, other_none, other, Plain, Leads, stays, passes-so, leads-none, leads-then, leads-ends, leads-badly}
+use Rattle.thm_waits.proofs.Leads.{other_none, other, Plain, Leads, stays, passes-so, leads-none, leads-then, leads-ends, leads-badly}
 
 pub leads-request : (w : World) (at : Micros) (pdu : List ℕ) → Plain w.held → Leads at w.held (request w at pdu).held
 unfolding request

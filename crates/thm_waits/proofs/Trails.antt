@@ -9,24 +9,21 @@ use lib.Seq.{length-take-le}
 use lib.Dec.{eqb, leb}
 use Rattle.bytes_base.specs.Choice.{pick, among}
 use Rattle.bytes_base.specs.Bytes.{le_at}
-use Rattle.lists.specs.Queue.{pushed}
 use Rattle.lists.proofs.QueueLaws.{pushed-within}
-use Rattle.lists.specs.Blocks.{Valued, bytes}
+use Rattle.lists.specs.Blocks.{Valued}
 use Rattle.lists.proofs.BlockLaws.{length-stored, stored-below}
-use Rattle.state_places.specs.Sizes.{most_steps, most_notifications, held_at, result_at}
+use Rattle.state_places.specs.Sizes.{most_steps, most_notifications, held_at}
 use Rattle.time.specs.declared.Micros.{Micros}
 use Rattle.time.specs.Clock.{latest}
 use Rattle.l2cap.specs.Numbers.{cid_att}
 use Rattle.att_pdu.specs.Numbers.{op_handle_value_ntf, op_handle_value_ind}
 use Rattle.notifications.specs.declared.Notification.{Notification}
-use Rattle.notifications.specs.declared.Notifications.{Notifications}
 use Rattle.notifications.specs.Kept.{part, live, keeping}
 use Rattle.state.specs.Fresh.{no_queued}
 use Rattle.state.specs.declared.Counters.{Counters}
 use Rattle.state.specs.declared.Queued.{Queued}
 use Rattle.state.specs.declared.Running.{Running}
 use Rattle.state.specs.declared.Queue.{Queue}
-use Rattle.state.specs.declared.Step.{Step}
 use Rattle.state.specs.declared.StepResult.{StepResult}
 use Rattle.state.specs.declared.StepStatus.{StepStatus}
 use Rattle.state.specs.declared.StepStatus.TheVariants.{Ok}
@@ -40,7 +37,7 @@ use Rattle.script_rules.proofs.KeepWaiting.{Took, take-keeps}
 use Rattle.link_rules.specs.Payload.{payload_at, payload}
 use Rattle.link_rules.specs.Channel.{on_channel}
 use Rattle.link_rules.specs.Replies.{keep_one}
-use Rattle.thm_trail.specs.Trail.{News, att-heard, Pass, pass, final, came_on}
+use Rattle.thm_trail.specs.Trail.{News, att-heard, Pass, final, came_on}
 use Rattle.thm_trail.specs.Log.{kept_results, up_to, newer, gave, given_in}
 use Rattle.thm_trail.proofs.Hops.{NotWell, Still, still-values, Open, Hop, ended, began, meets, parts, still, acted, At, Hops, none, more, AllAt}
 use Rattle.thm_accounting.specs.InLine.{running_one, in_line}
@@ -48,11 +45,10 @@ use Rattle.thm_accounting.proofs.Gives.{Whole, whole_same, nothing, Apart, apart
 use Rattle.thm_accounting.proofs.Channels.{apart-keep}
 use Rattle.thm_accounting.proofs.Books.{Books, whole, none-gave, kept-take, books-take, whole_take, books-gives, sound-hop, books-hop}
 use Rattle.thm_heard.proofs.Brings.{Quiet}
-use Rattle.thm_counts.specs.Tally.{is_notice}
 use Rattle.thm_waits.specs.Notices.{notice_of, notices_in}
 use Rattle.thm_waits.specs.Waits.{is_ok, is_wait_notification, passed_in}
 use Rattle.thm_waits.proofs.Counting.{Each, each_append}
-use Rattle.thm_waits.proofs.Leads.{Leads, other_none, ends_so, leads-none}
+use Rattle.thm_waits.proofs.Leads.{Leads, other_none, ends_so}
 use Rattle.thm_waits.proofs.Starts.{Kind, plain, waits, kind, leads_any}
 use Rattle.thm_waits.proofs.Channels.{kept_first, tells, tells_on, leads-channel}
 use Rattle.thm_waits.proofs.Ears.{Ear, ear-kept, ear-take, kept-below, long, ear-keep}
@@ -332,6 +328,6 @@ module _ (W : Held → Type 0) {F : ℕ} {L : List (Valued Notification)} {N : �
   pub went-hops : {b : Bool} (l : List (Valued StepResult)) {w : World} {ps : List Pass} (xs : Hops w ps) → AllAt at xs → Quiet ps → Each (λ (p : Pass). W p.to.held) ps
       → Going F L N P b l q vs w → Went W F L N P b at l q vs (final w ps) (given_in w ps)
   went-hops l (none {w}) t c k g = went-none l w g
-  went-hops l (more {w} {p} {ps} x xs) t c k g =
+  went-hops {b} l (more {w} {p} {ps} x xs) t c k g =
       let y = went-quiet W at time l q vs small x t.0 c.0 k.0 g in
-      went_then l (gave w.held p.to.held) (given_in p.to ps) p.to (final p.to ps) y (went-hops (l ++ gave w.held p.to.held) xs t.1 c.1 k.1 y.going)
+      went_then l (gave w.held p.to.held) (given_in p.to ps) p.to (final p.to ps) y (went-hops {b = b || passed_in q (gave w.held p.to.held)} (l ++ gave w.held p.to.held) xs t.1 c.1 k.1 y.going)

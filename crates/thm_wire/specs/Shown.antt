@@ -1,6 +1,6 @@
 -- The theorem is of something: a link comes, then a batch asks for an MTU, and one frame goes out. Of the store and of the output nothing
 -- is said but their sizes.
-use Rattle.std.specs.Prelude.{ℕ, ◌+◌, ◌≡◌, false, length, take, drop, replicate}
+use Rattle.std.specs.Prelude.{ℕ, ◌≡◌, false, length, take, drop, replicate}
 use Rattle.std.proofs.Math.Path.{refl, ap}
 use Rattle.std.proofs.Common.{◌∙◌, arith}
 use mathlib.Core.List.{List, [], ◌∷◌, ◌++◌}
@@ -24,7 +24,6 @@ use Rattle.state_rules.specs.Refusals.{accepted}
 use Rattle.script_rules.specs.World.{Held, Told}
 use Rattle.script_rules.specs.Send.{more, send, request}
 use Rattle.script_rules.specs.declared.Batch.{Batch}
-use Rattle.script_rules.specs.BatchSteps.{steps}
 use Rattle.script_rules.specs.Waiting.{push_one, push_all, take_step}
 use Rattle.script_rules.specs.Start.{start_linked, start_on, start}
 use Rattle.script_rules.specs.Script.{advances, advance}

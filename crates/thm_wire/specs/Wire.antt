@@ -1,6 +1,6 @@
 -- What a call writes to the output, read off the worlds that it passes through, and what is promised of it: 65 frames at most, whole
 -- ones, told as they are written, with no ATT payload beyond the MTU.
-use Rattle.std.specs.Prelude.{ℕ, zero, suc, ◌+◌, ◌≤◌, ◌≡◌, false, List, [], ◌∷◌, ◌++◌, length, take, drop}
+use Rattle.std.specs.Prelude.{ℕ, zero, suc, ◌≤◌, ◌≡◌, false, List, [], ◌∷◌, ◌++◌, length, take, drop}
 use Rattle.bytes_base.specs.Choice.{pick}
 use Rattle.bytes_base.specs.Bytes.{le}
 use Rattle.l2cap.specs.Numbers.{cid_att}

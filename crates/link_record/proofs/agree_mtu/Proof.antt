@@ -14,10 +14,10 @@ use Rattle.link_record.specs.contracts.agree_mtu as f
 use Rattle.link_record.proofs.agree_mtu.Statement.{statement}
 use Rattle.link_record.proofs.agree_mtu.Code as code
 
-pub agree-mtu-spec : {M : Type 1} → statement M
-unfolding code.routine tables_of
-agree-mtu-spec 𝓤 𝓛 𝓜 𝓡 =
-    entered 𝓤 𝓛.H (triple_of 𝓛 f.signature (f.spec 𝓛 𝓜.mem 𝓡.run))
-    (tables 𝓤 𝓛.H 𝓜 𝓡 code.env).C (tables 𝓤 𝓛.H 𝓜 𝓡 code.env).Λ name code.function (code.unfolded 𝓤 𝓛.H 𝓜 𝓡)
+pub agree_mtu_spec : {M : Type 1} → statement M
+unfolding tables_of
+agree_mtu_spec 𝓤 𝓛 𝓜 𝓡 wired =
+    entered 𝓤 𝓛.H (triple_of 𝓛 f.signature (f.spec 𝓛 𝓜.mem 𝓡.returns))
+    (tables 𝓤 𝓛.H 𝓜 𝓡 𝓡.env).C (tables 𝓤 𝓛.H 𝓜 𝓡 𝓡.env).Λ name code.function (code.unfolded 𝓤 𝓛.H 𝓜 𝓡 wired)
     (sets T.the_type T'.the_laws T'.the_plain (uint w16) _ agreed refl (λ h x. refl) (λ h x g gx. (g.0, (gx, g.1.1)))
-    𝓛 (tables_of 𝓤 𝓛.H 𝓜 (tables 𝓤 𝓛.H 𝓜 𝓡 code.env)))
+    𝓛 (tables_of 𝓤 𝓛.H 𝓜 (tables 𝓤 𝓛.H 𝓜 𝓡 𝓡.env)))

@@ -17,9 +17,9 @@ use Rattle.link_record.proofs.open.Statement.{statement}
 use Rattle.link_record.proofs.open.Code as code
 
 pub open_spec : {M : Type 1} → statement M
-unfolding code.routine tables_of
-open_spec 𝓤 𝓛 𝓜 𝓡 =
-    entered 𝓤 𝓛.H (triple_of 𝓛 f.signature (f.spec 𝓛 𝓜.mem 𝓡.run))
-    (tables 𝓤 𝓛.H 𝓜 𝓡 code.env).C (tables 𝓤 𝓛.H 𝓜 𝓡 code.env).Λ name code.function (code.unfolded 𝓤 𝓛.H 𝓜 𝓡)
+unfolding tables_of
+open_spec 𝓤 𝓛 𝓜 𝓡 wired =
+    entered 𝓤 𝓛.H (triple_of 𝓛 f.signature (f.spec 𝓛 𝓜.mem 𝓡.returns))
+    (tables 𝓤 𝓛.H 𝓜 𝓡 𝓡.env).C (tables 𝓤 𝓛.H 𝓜 𝓡 𝓡.env).Λ name code.function (code.unfolded 𝓤 𝓛.H 𝓜 𝓡 wired)
     (renews T.the_type T'.the_laws T'.the_plain (uint w16) (number w16 23 tt) (number w8 0 tt) (flag false) (λ l. new_link) refl refl refl refl (λ h x. refl) (λ h x gx g₁ g₂ g₃. (gx, (g₁, (g₂, (g₃, tt)))))
-    𝓛 (tables_of 𝓤 𝓛.H 𝓜 (tables 𝓤 𝓛.H 𝓜 𝓡 code.env)))
+    𝓛 (tables_of 𝓤 𝓛.H 𝓜 (tables 𝓤 𝓛.H 𝓜 𝓡 𝓡.env)))

@@ -2,12 +2,11 @@
 use mir.Syntax.{w16}
 use contract.Running.{tables, tables_of}
 use denote.Triple.Spec.{triple_of}
-use denote.Triple.Table.{entered, cited}
+use denote.Triple.Table.{entered}
 use Rattle.link_record.specs.Record.{new_link}
 use Rattle.link_record_laws.proofs.Data.{uint}
 use Rattle.link_record.proofs.LendsField.{lends_field}
-use Rattle.link_record.proofs.Rows.{bearer-link}
-use Rattle.link_record.specs.contracts.open as g
+use Rattle.link_record.proofs.Rows.{bearer_link}
 use Rattle.link_record.proofs.open.Symbol as g-def
 use Rattle.link_record.proofs.open.Met as g-thm
 use Rattle.link_record.specs.contracts.opened.Key.{name}
@@ -15,11 +14,10 @@ use Rattle.link_record.specs.contracts.opened as f
 use Rattle.link_record.proofs.opened.Statement.{statement}
 use Rattle.link_record.proofs.opened.Code as code
 
-pub opened-spec : {M : Type 1} → statement M
-unfolding code.routine tables_of
-opened-spec 𝓤 𝓛 𝓜 𝓡 =
-    entered 𝓤 𝓛.H (triple_of 𝓛 f.signature (f.spec 𝓛 𝓜.mem 𝓡.run))
-    (tables 𝓤 𝓛.H 𝓜 𝓡 code.env).C (tables 𝓤 𝓛.H 𝓜 𝓡 code.env).Λ name code.function (code.unfolded 𝓤 𝓛.H 𝓜 𝓡)
-    (lends_field bearer-link (uint w16) g-def.name (λ l. new_link) 𝓛 (tables_of 𝓤 𝓛.H 𝓜 (tables 𝓤 𝓛.H 𝓜 𝓡 code.env))
-    (cited 𝓤 𝓛.H (triple_of 𝓛 g.signature (g.spec 𝓛 𝓜.mem 𝓡.run)) 𝓜 𝓡 code.env g-def.name g-def.routine code.calls-link-record::open
-    (g-thm.met 𝓤 𝓛 𝓜 𝓡)))
+pub opened_spec : {M : Type 1} → statement M
+unfolding tables_of
+opened_spec 𝓤 𝓛 𝓜 𝓡 wired =
+    entered 𝓤 𝓛.H (triple_of 𝓛 f.signature (f.spec 𝓛 𝓜.mem 𝓡.returns))
+    (tables 𝓤 𝓛.H 𝓜 𝓡 𝓡.env).C (tables 𝓤 𝓛.H 𝓜 𝓡 𝓡.env).Λ name code.function (code.unfolded 𝓤 𝓛.H 𝓜 𝓡 wired)
+    (lends_field bearer_link (uint w16) g-def.name (λ l. new_link) 𝓛 (tables_of 𝓤 𝓛.H 𝓜 (tables 𝓤 𝓛.H 𝓜 𝓡 𝓡.env))
+    (g-thm.met 𝓤 𝓛 𝓜 𝓡 (code.calls-link_record::open 𝓡.env wired)))

@@ -1,0 +1,19 @@
+use mathlib.Core.Path.{ap, ◌∙◌}
+use Rattle.uuid_value.specs.Value.{num}
+use Rattle.adv_data.proofs.Searches.{place_sought, listed-where-found}
+use Rattle.adv_data.proofs.search.Goals as goal
+
+pub returns-in-Listed : goal.returns-in-Listed
+returns-in-Listed c =
+    let a = c.args in
+    ap place_sought (c.in-Listed.ensures) ∙ listed-where-found (num a.uuid) a.«data».now
+
+pub returns-in-Absent : goal.returns-in-Absent
+returns-in-Absent c =
+    let a = c.args in
+    ap place_sought (c.in-Absent.ensures) ∙ listed-where-found (num a.uuid) a.«data».now
+
+pub returns-in-Unknown : goal.returns-in-Unknown
+returns-in-Unknown c =
+    let a = c.args in
+    ap place_sought (c.in-Unknown.ensures) ∙ listed-where-found (num a.uuid) a.«data».now

@@ -1,0 +1,6 @@
+use Rattle.gatt_descriptors.proofs.NamedLaws.{mark-new}
+use borrow.Author.Rules.{rules}
+use Rattle.gatt_descriptors.proofs.mark.Goals as goal
+
+pub returns-in-Unknown : goal.returns-in-Unknown
+returns-in-Unknown c = mark-new c.args.h c.args.c (search rules)

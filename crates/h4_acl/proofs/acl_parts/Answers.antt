@@ -1,0 +1,14 @@
+use Rattle.h4_acl.proofs.SplitLaws.{no_header, no-acl, cut_short, parted}
+use Rattle.h4_acl.proofs.acl_parts.Goals as goal
+
+pub returns-then-size-lt-ACL_HEADER : goal.returns-then-size-lt-ACL_HEADER
+returns-then-size-lt-ACL_HEADER c = no_header c.args.packet.now c.if-size-lt-ACL_HEADER.true
+
+pub returns-then-packet-ne-ACL : goal.returns-then-packet-ne-ACL
+returns-then-packet-ne-ACL c = no-acl c.args.packet.now c.if-size-lt-ACL_HEADER.false c.if-packet-ne-ACL.true
+
+pub returns-then-size-len : goal.returns-then-size-len
+returns-then-size-len c = cut_short c.args.packet.now c.if-size-lt-ACL_HEADER.false c.if-packet-ne-ACL.false _ c.le16-len.ensures c.if-size-len.true
+
+pub returns : goal.returns
+returns c = parted c.args.packet.now c.if-size-lt-ACL_HEADER.false c.if-packet-ne-ACL.false _ c.le16-len.ensures c.if-size-len.false _ c.le16-word.ensures

@@ -1,0 +1,11 @@
+use mathlib.Core.Path.{refl}
+use lib.ListN.{length}
+use Rattle.state_core.specs.Reading.{central}
+use Rattle.state_readers.proofs.ReaderLaws.{timer-refused, timer-told}
+use Rattle.state_readers.proofs.timer_us.Goals as goal
+
+pub returns-then-why-ne-ACCEPTED : goal.returns-then-why-ne-ACCEPTED
+returns-then-why-ne-ACCEPTED c = timer-refused (central c.args.core c.args.tables.now) (length c.args.store.now) _ (c.gate_reader-why.ensures) (c.if-why-ne-ACCEPTED.true)
+
+pub returns : goal.returns
+returns c = timer-told (central c.args.core c.args.tables.now) (length c.args.store.now) _ _ _ (c.gate_reader-why.ensures) (c.if-why-ne-ACCEPTED.false) refl (c.timer_of.ensures)
