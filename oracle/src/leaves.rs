@@ -1,7 +1,7 @@
 //! The leaves of the port against the Rust: `leaves PROGRAM [seed N] [count N]`, where PROGRAM answers for the port (leaf_port.c).
 //!
 //! One thread makes the inputs and writes the requests; the other makes the same inputs again, reads the answers in
-//! their order and compares. Nothing waits for a single answer, so it is fast also where the program is emulated.
+//! their order and compares. Nothing waits for a single answer, so it is fast.
 //! For each leaf a fixed set (all short inputs, boundaries) and `count` random ones (1,000,000; of the three-way search twice as
 //! many). What is told of the place of a body or a name, and of a service that is not listed, is compared with a slow
 //! computation, since the Rust does not tell it. The Rust reads UUID text

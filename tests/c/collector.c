@@ -1,5 +1,5 @@
 /* The C exports as the collector calls them: sample rows, bad input, and places that must be left alone.
- * Compiled with -Wall -Wextra -Werror and run under the address and undefined-behaviour sanitizers (under an emulator the latter alone).
+ * Compiled with -Wall -Wextra -Werror and run under the address and undefined-behaviour sanitizers.
  * The sanitizers see the reads of this file and not those of the archive, so every payload is laid against a page that
  * may not be read: one byte read past its end, or before its start, ends the program with a signal.
  * Prints the number of checks and ends with 0, or prints the failed checks and ends with 1. */
