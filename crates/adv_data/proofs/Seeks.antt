@@ -7,8 +7,9 @@ use native.Mathlib.Omega.{arith}
 use lib.ListN.{length, take, drop, get_or}
 use lib.Dec.{eqb, ltb}
 use borrow.Author.Tests.{lt-ltb, le-ltb, ne_eqb}
+use Rattle.std.specs.Prelude.{Option, Some, None}
 use Rattle.bytes_base.specs.Choice.{pick, among}
-use Rattle.adv_data.specs.Ad.{Ad, width_of, uuid_of, uuids, Found, One, None, listing}
+use Rattle.adv_data.specs.Ad.{Ad, width_of, uuid_of, uuids, listing}
 use Rattle.adv_data.specs.Answers.{incomplete, any_incomplete, overran, stop_of, answer}
 use Rattle.adv_data.specs.declared.Sought.{Sought}
 use Rattle.adv_data.specs.declared.Sought.TheVariants.{Listed, Absent, Unknown}
@@ -28,19 +29,19 @@ from u at s = answer (listing u (read_at at s)) (more_at at s)
 abbrev pub onto : Sought → Sought → Sought
 onto known Absent = known
 onto known Unknown = Unknown
-onto known (Listed b n) = Listed b n
+onto known (Listed x) = Listed x
 
 -- nothing was read yet
 pub from_nothing : (x : Sought) → onto Absent x ≡ x
 from_nothing Absent = refl
 from_nothing Unknown = refl
-from_nothing (Listed b n) = refl
+from_nothing (Listed y) = refl
 
 -- of one structure more: t is whether it lists u, i whether it is an incomplete list
-one_more : (t i m o : Bool) (a : Ad) (f : Found)
-    → answer (pick t (One a) f) ((i || m) || o) ≡ pick t (Listed a.start (length a.body)) (onto (pick i Unknown Absent) (answer f (m || o)))
+one_more : (t i m o : Bool) (a : Ad) (f : Option Ad)
+    → answer (pick t (Some a) f) ((i || m) || o) ≡ pick t (Listed (record { at = a.start; len = length a.body })) (onto (pick i Unknown Absent) (answer f (m || o)))
 one_more true i m o a f = refl
-one_more false i m o a (One b) = refl
+one_more false i m o a (Some b) = refl
 one_more false true true o a None = refl
 one_more false true false true a None = refl
 one_more false true false false a None = refl
@@ -52,10 +53,10 @@ one_more false false false false a None = refl
 behind : (i : Bool) (known x : Sought) → onto known (onto (pick i Unknown Absent) x) ≡ onto (pick i Unknown known) x
 behind true known Absent = refl
 behind true known Unknown = refl
-behind true known (Listed b n) = refl
+behind true known (Listed y) = refl
 behind false known Absent = refl
 behind false known Unknown = refl
-behind false known (Listed b n) = refl
+behind false known (Listed y) = refl
 
 -- by whether a kind that lists is even
 pub passed-even : (k : ℕ) (known : Sought) → 0 < width_of k → k % 2 ≡ 0 → Unknown ≡ pick (incomplete k) Unknown known
@@ -89,7 +90,7 @@ module _ (u at : ℕ) (s : List ℕ) (n : ℕ) (is : n ≡ get_or s at 0) (not-z
   abbrev kind : ℕ
   kind = get_or s (at + 1) 0
 
-  here : from u at s ≡ pick (ltb 0 w && rest u s w (at + 2) next) (Listed (at + 2) (n - 1)) (onto (pick (incomplete kind) Unknown Absent) (from u next s))
+  here : from u at s ≡ pick (ltb 0 w && rest u s w (at + 2) next) (Listed (record { at = at + 2; len = n - 1 })) (onto (pick (incomplete kind) Unknown Absent) (from u next s))
   unfolding listing any_incomplete
   here =
       let some : 0 < n = omega arith in
@@ -117,7 +118,7 @@ module _ (u at : ℕ) (s : List ℕ) (n : ℕ) (is : n ≡ get_or s at 0) (not-z
     pub list-later : r ≡ false → (i + w ≤ next) × (rest u s w i next ≡ rest u s w (i + w) next)
     list-later h = (omega arith, among_later s i next (omega arith) u w r some (omega arith) is-r h)
 
-    pub list-here : r ≡ true → rest u s w i next ≡ rest u s w (at + 2) next → from u at s ≡ Listed (at + 2) (n - 1)
+    pub list-here : r ≡ true → rest u s w i next ≡ rest u s w (at + 2) next → from u at s ≡ Listed (record { at = at + 2; len = n - 1 })
     list-here h e =
         let z : rest u s w (at + 2) next ≡ true = sym e ∙ among-here s i next (omega arith) u w r some (omega arith) is-r h in
         here ∙ rw (lt-ltb 0 w some, z)

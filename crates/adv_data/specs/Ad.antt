@@ -1,11 +1,10 @@
 -- Advertising data: its structures (Core Vol 3 Part C 11), and the service UUIDs that they list (Core Supplement Part A 1.1).
-use Rattle.std.specs.Prelude.{ℕ, zero, suc, ◌+◌, ◌-◌, ◌≡◌, ◌⊎◌, List, [], ◌∷◌, map, Bool, false, ◌&&◌, ◌||◌, length, get_or, take, drop, eqb, ltb}
+use Rattle.std.specs.Prelude.{ℕ, zero, suc, ◌+◌, ◌-◌, ◌≡◌, ◌⊎◌, List, [], ◌∷◌, map, Bool, false, ◌&&◌, ◌||◌, length, get_or, take, drop, eqb, ltb, Option, Some, None}
 use Rattle.bytes_base.specs.Choice.{pick, within, among}
 use Rattle.bytes_base.specs.Bytes.{le}
 use Rattle.lists.specs.Cut.{entries}
 use Rattle.uuid_value.specs.Value.{short}
-use Rattle.adv_data.specs.declared.Place.{Place}
-use Rattle.adv_data.specs.declared.Place.TheVariants.{Body, Nothing}
+use Rattle.bytes_bounds.specs.declared.Span.{Span}
 
 -- ---- structures
 
@@ -64,20 +63,15 @@ any_lists u (a ∷ more) = lists u a || any_lists u more
 abbrev pub lists_service : ℕ → List ℕ → Bool
 lists_service u s = any_lists u (structures s)
 
--- a structure, or none
-pub data Found : Type 0 where
-  One : Ad → Found
-  None : Found
-
 -- the first structure that lists u
-unfoldable pub listing : ℕ → List Ad → Found
+unfoldable pub listing : ℕ → List Ad → Option Ad
 listing u [] = None
-listing u (a ∷ more) = pick (lists u a) (One a) (listing u more)
+listing u (a ∷ more) = pick (lists u a) (Some a) (listing u more)
 
 -- where the body of a structure stands
-abbrev pub place_of : Found → Place
-place_of (One a) = Body a.start (length a.body)
-place_of None = Nothing
+abbrev pub place_of : Option Ad → Option Span
+place_of (Some a) = Some (record { at = a.start; len = length a.body })
+place_of None = None
 
-abbrev pub listed_place : ℕ → List ℕ → Place
+abbrev pub listed_place : ℕ → List ℕ → Option Span
 listed_place u s = place_of (listing u (structures s))

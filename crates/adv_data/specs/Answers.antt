@@ -1,8 +1,8 @@
 -- What advertising data tells of a service, three ways (02, Five): listed; absent; or unknown, when nothing matched and some structure
 -- of kind 02, 04 or 06 was read or the reading stopped on an overrun. The kinds: Core Supplement Part A 1.1.
-use Rattle.std.specs.Prelude.{ℕ, ◌+◌, List, [], ◌∷◌, Bool, true, false, ◌||◌, length, drop, eqb}
+use Rattle.std.specs.Prelude.{ℕ, ◌+◌, List, [], ◌∷◌, Bool, true, false, ◌||◌, length, drop, eqb, Option, Some, None}
 use Rattle.bytes_base.specs.Choice.{pick}
-use Rattle.adv_data.specs.Ad.{Ad, structures, Found, One, None, listing}
+use Rattle.adv_data.specs.Ad.{Ad, structures, listing}
 use Rattle.adv_data.specs.declared.Sought.{Sought}
 use Rattle.adv_data.specs.declared.Sought.TheVariants.{Listed, Absent, Unknown}
 
@@ -48,8 +48,8 @@ maybe_more s = any_incomplete (structures s) || overran (stop s)
 -- ---- the three answers
 
 -- by the structure that lists the service, and by whether there may be more
-abbrev pub answer : Found → Bool → Sought
-answer (One a) more = Listed a.start (length a.body)
+abbrev pub answer : Option Ad → Bool → Sought
+answer (Some a) more = Listed (record { at = a.start; len = length a.body })
 answer None true = Unknown
 answer None false = Absent
 

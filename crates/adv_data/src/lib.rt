@@ -7,20 +7,14 @@ ghost use Rattle.bytes_base.specs.Choice.{pick};
 ghost use Rattle.adv_data.specs.Ad.{width_of, IsWidth, uuid_of, listed_place};
 ghost use Rattle.adv_data.specs.Answers.{incomplete, sought_in};
 
+use bytes_bounds::Span;
 use uuid_value::Uuid;
 
-// Where the body of a structure stands: its start, and how many bytes it has.
-#[derive(Clone, Copy)]
-pub enum Place {
-    Body(usize, usize),
-    Nothing,
-}
-
-// What data tells of a service: where the body of the first structure stands that lists it, its start and how many bytes it has; that
-// it is not offered; or neither, since a list is incomplete or the data is cut.
+// What data tells of a service: where the body of the first structure stands that lists it; that it is not offered; or neither, since
+// a list is incomplete or the data is cut.
 #[derive(Clone, Copy)]
 pub enum Sought {
-    Listed(usize, usize),
+    Listed(Span),
     Absent,
     Unknown,
 }
@@ -109,7 +103,10 @@ pub fn seek(data: &[u8], uuid: Uuid) -> Sought
             let mut i = body;
             while width <= next - i {
                 if equal_at(data, i, width, uuid) {
-                    answer = Sought::Listed(body, len - 1);
+                    answer = Sought::Listed(Span {
+                        at: body,
+                        len: len - 1,
+                    });
                     break 'structures;
                 }
                 i += width;
@@ -121,12 +118,11 @@ pub fn seek(data: &[u8], uuid: Uuid) -> Sought
 }
 
 // Where the body of the first structure stands that lists the service.
-pub fn search(data: &[u8], uuid: Uuid) -> Place
+pub fn search(data: &[u8], uuid: Uuid) -> Option<Span>
     ensures { result ≡ listed_place (num uuid) «data».now }
 {
     match seek(data, uuid) {
-        Sought::Listed(start, len) => Place::Body(start, len),
-        Sought::Absent => Place::Nothing,
-        Sought::Unknown => Place::Nothing,
+        Sought::Listed(body) => Some(body),
+        Sought::Absent | Sought::Unknown => None,
     }
 }

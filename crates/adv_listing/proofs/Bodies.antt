@@ -5,9 +5,10 @@ use mathlib.Core.List.{List, []}
 use native.Mathlib.Nat.{add-sub_cancel_left}
 use lib.ListN.{take, drop}
 use denote.Ref.{Bor}
+use Rattle.std.specs.Prelude.{Some, None}
+use Rattle.bytes_bounds.specs.declared.Span.{Span}
 use Rattle.adv_data.specs.Ad.{listed_place}
 use Rattle.adv_data.specs.Body.{listed_body, listed_at}
-use Rattle.adv_data.specs.declared.Place.TheVariants.{Body, Nothing}
 use Rattle.adv_data.proofs.Searches.{found_at, found_none}
 
 module _ (u : ℕ) (d t : Bor (List ℕ)) where
@@ -15,16 +16,16 @@ module _ (u : ℕ) (d t : Bor (List ℕ)) where
   abbrev pub Answers : List ℕ → ℕ × ℕ → Type 0
   Answers l p = (l ≡ listed_body u d.now t.now) × (p ≡ listed_at u d t)
 
-  pub in-data : (b n : ℕ) → Body b n ≡ listed_place u d.now → Answers (take (b + n - b) (drop b d.now)) (d.ref_ptr.0, b + d.ref_ptr.1)
-  in-data b n e =
-      let f = found_at u d.now b n e in
-      rw (f.is, add-sub_cancel_left b n, f.bytes, f.begins) (refl, refl)
+  pub in-data : (x : Span) → Some x ≡ listed_place u d.now → Answers (take (x.at + x.len - x.at) (drop x.at d.now)) (d.ref_ptr.0, x.at + d.ref_ptr.1)
+  in-data x e =
+      let f = found_at u d.now x e in
+      rw (f.is, add-sub_cancel_left x.at x.len, f.bytes, f.begins) (refl, refl)
 
-  module _ (none : Nothing ≡ listed_place u d.now) where
-    pub in-response : (b n : ℕ) → Body b n ≡ listed_place u t.now → Answers (take (b + n - b) (drop b t.now)) (t.ref_ptr.0, b + t.ref_ptr.1)
-    in-response b n e =
-        let f = found_at u t.now b n e in
-        rw (found_none u d.now none, f.is, add-sub_cancel_left b n, f.bytes, f.begins) (refl, refl)
+  module _ (none : None ≡ listed_place u d.now) where
+    pub in-response : (x : Span) → Some x ≡ listed_place u t.now → Answers (take (x.at + x.len - x.at) (drop x.at t.now)) (t.ref_ptr.0, x.at + t.ref_ptr.1)
+    in-response x e =
+        let f = found_at u t.now x e in
+        rw (found_none u d.now none, f.is, add-sub_cancel_left x.at x.len, f.bytes, f.begins) (refl, refl)
 
-    pub in-neither : Nothing ≡ listed_place u t.now → Answers [] d.ref_ptr
+    pub in-neither : None ≡ listed_place u t.now → Answers [] d.ref_ptr
     in-neither e = rw (found_none u d.now none, found_none u t.now e) (refl, refl)

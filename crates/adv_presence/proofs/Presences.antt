@@ -3,11 +3,13 @@ use Prim.Native.Nat.{ℕ}
 use mathlib.Core.Path.{◌≡◌, refl, sym, ◌∙◌}
 use mathlib.Core.Bool.{Bool, true, false, ◌||◌}
 use mathlib.Core.List.{List}
-use Rattle.adv_data.specs.Ad.{structures, Found, One, None, listing, place_of, lists_service}
+use Rattle.std.specs.Prelude.{Option, Some, None, is_some}
+use Rattle.bytes_bounds.specs.declared.Span.{Span}
+use Rattle.adv_data.specs.Ad.{Ad, structures, listing, place_of, lists_service}
 use Rattle.adv_data.specs.Answers.{answer, maybe_more, sought_in}
 use Rattle.adv_data.specs.declared.Sought.{Sought}
 use Rattle.adv_data.specs.declared.Sought.TheVariants as sought
-use Rattle.adv_data.proofs.Searches.{is_body, any_found}
+use Rattle.adv_data.proofs.Searches.{any_found}
 use Rattle.adv_presence.specs.declared.Presence.{Presence}
 use Rattle.adv_presence.specs.declared.Presence.TheVariants.{Absent, Listed, Unknown}
 use Rattle.adv_presence.specs.Presences.{presence_of, is_listed, either, presence_in}
@@ -21,8 +23,8 @@ alone Unknown = refl
 -- ---- both together, by what the data tells
 
 module _ (u : ℕ) (s t : List ℕ) where
-  pub listed-first : (b n : ℕ) → sought.Listed b n ≡ sought_in u s → Listed ≡ presence_in u s t
-  listed-first b n e = rw (← e)
+  pub listed-first : (x : Span) → sought.Listed x ≡ sought_in u s → Listed ≡ presence_in u s t
+  listed-first x e = rw (← e)
 
   pub absent-first : (x : Sought) (p : Presence) → sought.Absent ≡ sought_in u s → x ≡ sought_in u t → p ≡ presence_of x → p ≡ presence_in u s t
   absent-first x p e f h = h ∙ alone (presence_of x) ∙ rw (← e, f)
@@ -32,8 +34,8 @@ module _ (u : ℕ) (s t : List ℕ) where
 
 -- ---- listed is what the base's search finds
 
-listed_by : (f : Found) (more : Bool) → is_listed (presence_of (answer f more)) ≡ is_body (place_of f)
-listed_by (One a) more = refl
+listed_by : (f : Option Ad) (more : Bool) → is_listed (presence_of (answer f more)) ≡ is_some (place_of f)
+listed_by (Some a) more = refl
 listed_by None true = refl
 listed_by None false = refl
 

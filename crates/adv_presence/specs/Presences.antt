@@ -9,7 +9,7 @@ use Rattle.adv_presence.specs.declared.Presence.TheVariants.{Absent, Listed, Unk
 
 -- of the data alone
 abbrev pub presence_of : Sought → Presence
-presence_of (sought.Listed start n) = Listed
+presence_of (sought.Listed body) = Listed
 presence_of sought.Absent = Absent
 presence_of sought.Unknown = Unknown
 

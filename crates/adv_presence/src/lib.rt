@@ -21,7 +21,7 @@ fn presence_of(x: Sought) -> Presence
     ensures { result ≡ presence_of x }
 {
     match x {
-        Sought::Listed(_, _) => Presence::Listed,
+        Sought::Listed(_) => Presence::Listed,
         Sought::Absent => Presence::Absent,
         Sought::Unknown => Presence::Unknown,
     }
@@ -43,7 +43,7 @@ pub fn service_presence(data: &[u8], response: &[u8], uuid: Uuid) -> Presence
     ensures { result ≡ presence_in (num uuid) «data».now response.now }
 {
     match adv_data::seek(data, uuid) {
-        Sought::Listed(_, _) => Presence::Listed,
+        Sought::Listed(_) => Presence::Listed,
         Sought::Absent => presence_of(adv_data::seek(response, uuid)),
         Sought::Unknown => beside_unknown(presence_of(adv_data::seek(response, uuid))),
     }

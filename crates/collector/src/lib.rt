@@ -8,7 +8,6 @@ ghost use Rattle.adv_presence.specs.Presences.{presence_in, presence_number};
 ghost use Rattle.collector.specs.Found.{start_of, count_of};
 ghost use Rattle.l2cap_params.specs.Params.{good_params};
 
-use adv_data::Place;
 use uuid_value::Uuid;
 
 // Whether some structure of the data lists the service.
@@ -31,12 +30,12 @@ pub fn barleyrope_find_service(
     ensures count_after { count.new ≡ count_of (listed_place (low + 2 ^ 64 * high) «data».now) count.old }
 {
     match adv_data::search(data, Uuid { low, high }) {
-        Place::Body(from, len) => {
-            *start = from;
-            *count = len;
+        Some(body) => {
+            *start = body.at;
+            *count = body.len;
             true
         }
-        Place::Nothing => false,
+        None => false,
     }
 }
 

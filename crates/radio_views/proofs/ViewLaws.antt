@@ -8,8 +8,8 @@ use lib.Seq.{length-take-le}
 use Rattle.state_places.specs.Sizes.{report_at}
 use Rattle.state.specs.declared.Address.{Address}
 use Rattle.adv_reports.specs.Key.{address_of}
-use Rattle.adv_data.specs.declared.Place.{Place}
-use Rattle.adv_data.specs.declared.Place.TheVariants as place
+use Rattle.bytes_bounds.specs.declared.Span.{Span as Body}
+use Rattle.std.specs.Prelude.{Option, Some, None}
 use Rattle.adv_data.specs.Ad.{listed_place}
 use Rattle.adv_data.proofs.Searches.{found_at}
 use Rattle.state_rules.specs.Gate.{gate_reader}
@@ -77,29 +77,29 @@ module _ (u : ℕ) (s : List ℕ) (x : Span) where
   is-part : listed_place u cut ≡ listed_place u (part s x)
   is-part = let k : x.at + x.len - x.at ≡ x.len = omega arith in ap (λ (n : ℕ). listed_place u (take n (drop x.at s))) k
 
-  pub search-inside : (b n : ℕ) → x.at + x.len ≤ length s → place.Body b n ≡ listed_place u cut → x.at + b ≤ length s
-  search-inside b n h e =
-      let f = found_at u cut b n e in
+  pub search-inside : (b : Body) → x.at + x.len ≤ length s → Some b ≡ listed_place u cut → x.at + b.at ≤ length s
+  search-inside b h e =
+      let f = found_at u cut b e in
       let l : length (drop x.at s) ≡ length s - x.at = length-drop x.at s in
       let k : length cut ≡ x.at + x.len - x.at = length-take-le (x.at + x.len - x.at) (drop x.at s) (omega arith) in
       omega (arith, f.inside)
 
-  pub search-body : (b n : ℕ) → place.Body b n ≡ listed_place u cut → place.Body (x.at + b) n ≡ place_in u s x
-  search-body b n e = ap (behind x.at) (e ∙ is-part)
+  pub search-body : (b : Body) → Some b ≡ listed_place u cut → Some (span (x.at + b.at) b.len) ≡ place_in u s x
+  search-body b e = ap (behind x.at) (e ∙ is-part)
 
-  pub search-none : place.Nothing ≡ listed_place u cut → place.Nothing ≡ place_in u s x
+  pub search-none : None ≡ listed_place u cut → None ≡ place_in u s x
   search-none e = ap (behind x.at) (e ∙ is-part)
 
 module _ (u : ℕ) (s : List ℕ) (d a : Span) where
-  pub body-first : (at n : ℕ) → place.Body at n ≡ place_in u s d → spot.At (span at n) ≡ body_in u s d a
-  body-first at n e = ap (λ (p : Place). spot_or p (spot_or (place_in u s a) spot.Nothing)) e
+  pub body-first : (x : Span) → Some x ≡ place_in u s d → spot.At x ≡ body_in u s d a
+  body-first x e = ap (λ (p : Option Span). spot_or p (spot_or (place_in u s a) spot.Nothing)) e
 
-  module _ (none : place.Nothing ≡ place_in u s d) where
-    pub body-second : (at n : ℕ) → place.Body at n ≡ place_in u s a → spot.At (span at n) ≡ body_in u s d a
-    body-second at n e = ap (λ (p : Place). spot_or p spot.Nothing) e ∙ ap (λ (p : Place). spot_or p (spot_or (place_in u s a) spot.Nothing)) none
+  module _ (none : None ≡ place_in u s d) where
+    pub body-second : (x : Span) → Some x ≡ place_in u s a → spot.At x ≡ body_in u s d a
+    body-second x e = ap (λ (p : Option Span). spot_or p spot.Nothing) e ∙ ap (λ (p : Option Span). spot_or p (spot_or (place_in u s a) spot.Nothing)) none
 
-    pub body-none : place.Nothing ≡ place_in u s a → spot.Nothing ≡ body_in u s d a
-    body-none e = ap (λ (p : Place). spot_or p spot.Nothing) e ∙ ap (λ (p : Place). spot_or p (spot_or (place_in u s a) spot.Nothing)) none
+    pub body-none : None ≡ place_in u s a → spot.Nothing ≡ body_in u s d a
+    body-none e = ap (λ (p : Option Span). spot_or p spot.Nothing) e ∙ ap (λ (p : Option Span). spot_or p (spot_or (place_in u s a) spot.Nothing)) none
 
 -- ---- of what is seen
 

@@ -1,7 +1,6 @@
 -- Where the bytes of what is seen stand in the store: a refusal, nowhere, or a place and a length.
-use Rattle.std.specs.Prelude.{ℕ, ◌+◌, List}
-use Rattle.adv_data.specs.declared.Place.{Place}
-use Rattle.adv_data.specs.declared.Place.TheVariants as place
+use Rattle.std.specs.Prelude.{ℕ, ◌+◌, List, Option, Some, None}
+use Rattle.bytes_bounds.specs.declared.Span.{Span as Body}
 use Rattle.adv_data.specs.Ad.{listed_place}
 use Rattle.radio_sights.specs.declared.Span.{Span}
 use Rattle.radio_sights.specs.declared.Response.{Response}
@@ -29,17 +28,17 @@ response_seen seen.Nothing = spot.Nothing
 response_seen (seen.Is r) = response_spot r.response
 
 -- a place in a part of the store, as a place in the store
-abbrev pub behind : ℕ → Place → Place
-behind at (place.Body start n) = place.Body (at + start) n
-behind at place.Nothing = place.Nothing
+abbrev pub behind : ℕ → Option Body → Option Span
+behind at (Some x) = Some (span (at + x.at) x.len)
+behind at None = None
 
 -- the body of the first structure in a part of the store that lists u
-abbrev pub place_in : ℕ → List ℕ → Span → Place
+abbrev pub place_in : ℕ → List ℕ → Span → Option Span
 place_in u s x = behind x.at (listed_place u (part s x))
 
-abbrev pub spot_or : Place → Spot → Spot
-spot_or (place.Body at n) other = spot.At (span at n)
-spot_or place.Nothing other = other
+abbrev pub spot_or : Option Span → Spot → Spot
+spot_or (Some x) other = spot.At x
+spot_or None other = other
 
 -- of those in the data, or else of those in the scan response
 abbrev pub body_in : ℕ → List ℕ → Span → Span → Spot

@@ -10,7 +10,6 @@ ghost use Rattle.adv_presence.specs.Presences.{presence_in};
 ghost use Rattle.radio_views.specs.Presences.{presence_seen};
 ghost use Rattle.radio_views.specs.Spots.{place_in, body_in, response_spot, data_seen, response_seen, body_spot};
 
-use adv_data::Place;
 use adv_presence::Presence;
 pub use radio_sights::{AdvReport, Response, Seen, Span};
 use state_core::Core;
@@ -124,18 +123,18 @@ pub fn report_response_at(core: Core, tables: &[u64; 1152], store: &[u8], i: usi
 }
 
 // Where in the store the body of the structure stands that lists the service, of those in a part of the store.
-fn search_in(store: &[u8], x: Span, uuid: Uuid) -> Place
+fn search_in(store: &[u8], x: Span, uuid: Uuid) -> Option<Span>
     requires { x.at + x.len ≤ length store.now }
     ensures { result ≡ place_in (num uuid) store.now x }
 {
     let from = x.at;
     let to = from + x.len;
     match adv_data::search(&store[from..to], uuid) {
-        Place::Body(start, len) => {
-            let at = from + start;
-            Place::Body(at, len)
+        Some(body) => {
+            let at = from + body.at;
+            Some(Span { at, len: body.len })
         }
-        Place::Nothing => Place::Nothing,
+        None => None,
     }
 }
 
@@ -145,10 +144,10 @@ fn body_in(store: &[u8], data: Span, answer: Span, uuid: Uuid) -> Spot
     ensures { result ≡ body_in (num uuid) store.now «data» answer }
 {
     match search_in(store, data, uuid) {
-        Place::Body(at, len) => Spot::At(Span { at, len }),
-        Place::Nothing => match search_in(store, answer, uuid) {
-            Place::Body(at, len) => Spot::At(Span { at, len }),
-            Place::Nothing => Spot::Nothing,
+        Some(body) => Spot::At(body),
+        None => match search_in(store, answer, uuid) {
+            Some(body) => Spot::At(body),
+            None => Spot::Nothing,
         },
     }
 }

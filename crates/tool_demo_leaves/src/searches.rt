@@ -1,16 +1,15 @@
 // The name and the services of an advertisement, as the library finds them.
-use adv_data::Place;
 use uuid_value::{Read, Uuid};
 
 fn name(what: &[u8], data: &[u8]) {
     tool_say::text(what);
     match adv_name::ad_local_name(data) {
-        Place::Body(start, len) => {
-            tool_say::told(b" at byte ", start as u64, b": ");
-            tool_say::part(data, start, len);
+        Some(body) => {
+            tool_say::told(b" at byte ", body.at as u64, b": ");
+            tool_say::part(data, body.at, body.len);
             tool_say::line(b"");
         }
-        Place::Nothing => tool_say::line(b": none"),
+        None => tool_say::line(b": none"),
     }
 }
 
@@ -26,10 +25,10 @@ fn found(what: &[u8], start: usize) {
 
 fn find<'a>(data: &'a [u8], response: &'a [u8], u: Uuid) {
     match adv_data::search(data, u) {
-        Place::Body(start, _) => found(b": in the advertising data at byte ", start),
-        Place::Nothing => match adv_data::search(response, u) {
-            Place::Body(start, _) => found(b": in the scan response at byte ", start),
-            Place::Nothing => tool_say::text(b": not listed"),
+        Some(body) => found(b": in the advertising data at byte ", body.at),
+        None => match adv_data::search(response, u) {
+            Some(body) => found(b": in the scan response at byte ", body.at),
+            None => tool_say::text(b": not listed"),
         },
     }
     tool_say::bytes(adv_listing::listed_body(data, response, u));

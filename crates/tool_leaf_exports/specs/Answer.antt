@@ -1,12 +1,11 @@
-use Rattle.std.specs.Prelude.{ℕ, Bool, true, false}
-use Rattle.adv_data.specs.declared.Place.{Place}
-use Rattle.adv_data.specs.declared.Place.TheVariants.{Body, Nothing}
+use Rattle.std.specs.Prelude.{ℕ, Bool, true, false, Option, Some, None}
+use Rattle.bytes_bounds.specs.declared.Span.{Span}
 use Rattle.uuid_value.specs.declared.Read.{Read}
 use Rattle.uuid_value.specs.declared.Read.TheVariants as read
 
-abbrev pub is_place : Place → Bool
-is_place (Body from n) = true
-is_place Nothing = false
+abbrev pub is_place : Option Span → Bool
+is_place (Some body) = true
+is_place None = false
 
 abbrev pub is_uuid : Read → Bool
 is_uuid (read.Is u) = true

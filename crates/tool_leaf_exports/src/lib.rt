@@ -10,7 +10,6 @@ ghost use Rattle.adv_name.specs.Name.{local_name};
 ghost use Rattle.collector.specs.Found.{start_of, count_of};
 ghost use Rattle.tool_leaf_exports.specs.Answer.{is_uuid, low_of, high_of, is_place};
 
-use adv_data::Place;
 use uuid_value::{Read, Uuid};
 
 // The halves of the UUID that text is; both places keep what they held where it is none.
@@ -67,12 +66,12 @@ pub extern "C" fn leaf_local_name(data: &[u8], start: &mut usize, count: &mut us
     ensures count_after { count.new ≡ count_of (local_name «data».now) count.old }
 {
     match adv_name::ad_local_name(data) {
-        Place::Body(from, len) => {
-            *start = from;
-            *count = len;
+        Some(body) => {
+            *start = body.at;
+            *count = body.len;
             true
         }
-        Place::Nothing => false,
+        None => false,
     }
 }
 

@@ -1,6 +1,5 @@
 // One row of the recorded list: a kind, the input's length in two bytes, the input, the answer's length in one byte, the Rust's
 // answer. oracle/record has the kinds and says how the list was made.
-use adv_data::Place;
 use uuid_value::{Read, Uuid};
 
 pub const PARSE: u8 = 1;
@@ -82,23 +81,23 @@ fn search_row(input: &[u8], answer: &[u8]) -> bool {
 // 0 for no name; 1, and the name after it.
 fn name_row(input: &[u8], answer: &[u8]) -> bool {
     match adv_name::ad_local_name(input) {
-        Place::Body(start, len) => {
+        Some(name) => {
             if answer.len() == 0 {
                 return false;
             }
             if answer[0] != 1 {
                 return false;
             }
-            if input.len() < len {
+            if input.len() < name.len {
                 return false;
             }
-            if input.len() - len < start {
+            if input.len() - name.len < name.at {
                 return false;
             }
-            let end = start + len;
-            check::same(&input[start..end], &answer[1..])
+            let end = name.at + name.len;
+            check::same(&input[name.at..end], &answer[1..])
         }
-        Place::Nothing => same_flag(false, answer),
+        None => same_flag(false, answer),
     }
 }
 

@@ -5,7 +5,7 @@ use Rattle.adv_presence.proofs.service_presence.Goals as goal
 pub returns-in-Listed : goal.returns-in-Listed
 returns-in-Listed c =
     let a = c.args in
-    listed-first (num a.uuid) a.«data».now a.response.now _ _ c.in-Listed.ensures
+    listed-first (num a.uuid) a.«data».now a.response.now _ c.in-Listed.ensures
 
 pub returns-in-Absent : goal.returns-in-Absent
 returns-in-Absent c =

@@ -2,22 +2,22 @@ use Rattle.uuid_value.specs.Value.{num}
 use Rattle.radio_views.proofs.ViewLaws.{body-first, body-second, body-none}
 use Rattle.radio_views.proofs.body_in.Goals as goal
 
-pub returns-in-Body : goal.returns-in-Body
-returns-in-Body c =
+pub returns-in-Some : goal.returns-in-Some
+returns-in-Some c =
     let a = c.args in
-    let e = c.in-Body.ensures in
-    body-first (num a.uuid) a.store.now a.«data» a.answer _ _ e
+    let e = c.in-Some.ensures in
+    body-first (num a.uuid) a.store.now a.«data» a.answer _ e
 
-pub returns-in-Body-search_in : goal.returns-in-Body-search_in
-returns-in-Body-search_in c =
+pub returns-in-Some-search_in : goal.returns-in-Some-search_in
+returns-in-Some-search_in c =
     let a = c.args in
-    let none = c.in-Nothing.ensures in
-    let e = c.in-Body-search_in.ensures in
-    body-second (num a.uuid) a.store.now a.«data» a.answer none _ _ e
+    let none = c.in-None.ensures in
+    let e = c.in-Some-search_in.ensures in
+    body-second (num a.uuid) a.store.now a.«data» a.answer none _ e
 
-pub returns-in-Nothing-search_in : goal.returns-in-Nothing-search_in
-returns-in-Nothing-search_in c =
+pub returns-in-None-search_in : goal.returns-in-None-search_in
+returns-in-None-search_in c =
     let a = c.args in
-    let none = c.in-Nothing.ensures in
-    let e = c.in-Nothing-search_in.ensures in
+    let none = c.in-None.ensures in
+    let e = c.in-None-search_in.ensures in
     body-none (num a.uuid) a.store.now a.«data» a.answer none e
