@@ -1,4 +1,5 @@
 -- Laws for the entries of an answer.
+use Rattle.std.specs.Prelude.{Option, Some, None}
 use Prim.Native.Nat.{ℕ, ◌+◌, ◌≤◌, ◌<◌}
 use mathlib.Core.Path.{◌≡◌, refl, sym, ap, ap₂, ◌∙◌}
 use mathlib.Core.Bool.{Bool, true}
@@ -20,11 +21,8 @@ use Rattle.lists.proofs.CutLaws.{drop-part, byte-part, le_at-part}
 use Rattle.lists.proofs.TableLaws.{onto-self, take-onto, set-in}
 use Rattle.lists.proofs.TakenLaws.{Going, goes, no_place}
 use Rattle.gatt_characteristics.specs.Characteristic.{Rising, enter, told, with-one, more, declaration_of, found_by, zero-characteristic}
-use Rattle.gatt_characteristics.specs.declared.Cccd.TheVariants.{Unknown}
 use Rattle.gatt_characteristics.specs.declared.Characteristic.{Characteristic}
 use Rattle.gatt_characteristics.specs.declared.Characteristics.{Characteristics}
-use Rattle.gatt_characteristics.specs.declared.Which.{Which}
-use Rattle.gatt_characteristics.specs.declared.Which.TheVariants.{At, Nothing}
 use Rattle.gatt_characteristics.proofs.RisingLaws.{place, enter-rising}
 use Rattle.gatt_characteristics.proofs.ArrayLaws.{enter-replaces, enter-inserts, length-inserts}
 
@@ -32,7 +30,7 @@ use Rattle.gatt_characteristics.proofs.ArrayLaws.{enter-replaces, enter-inserts,
 
 module _ (s : List ℕ) (a b : ℕ) (r : read.Read) (h : a + 5 ≤ b) (e : r ≡ att_uuid (part (a + 5) b s)) where
   pub told_is : (x y : ℕ) (u : Uuid) → b ≤ length s → x ≡ le_at 2 s a → y ≡ le_at 2 s (a + 3) → r ≡ read-variants.Is u
-      → At (record { declaration = x; properties = get_or s (a + 2) 0; value_handle = y; uuid = u; cccd = Unknown }) ≡ told (part a b s)
+      → Some (record { declaration = x; properties = get_or s (a + 2) 0; value_handle = y; uuid = u; cccd = None }) ≡ told (part a b s)
   unfolding told
   told_is x y u g e₁ e₂ e₃ =
       rw (
@@ -46,24 +44,24 @@ module _ (s : List ℕ) (a b : ℕ) (r : read.Read) (h : a + 5 ≤ b) (e : r ≡
         e₂,
       )
 
-  pub told-not : r ≡ read-variants.Nothing → Nothing ≡ told (part a b s)
+  pub told-not : r ≡ read-variants.Nothing → None ≡ told (part a b s)
   unfolding told
   told-not e₃ = rw (drop-part a b 5 s h, ← e, e₃)
 
 -- ---- the list after what an entry tells
 
-with_nothing : (l : List Characteristic) (x : Which) → x ≡ Nothing → with-one l x ≡ l
+with_nothing : (l : List Characteristic) (x : Option Characteristic) → x ≡ None → with-one l x ≡ l
 unfolding with-one
 with_nothing l x e = rw e
 
-with-entered : (l : List Characteristic) (x : Which) (c : Characteristic) → x ≡ At c → with-one l x ≡ enter c l
+with-entered : (l : List Characteristic) (x : Option Characteristic) (c : Characteristic) → x ≡ Some c → with-one l x ≡ enter c l
 unfolding with-one
 with-entered l x c e = rw e
 
-pub with-one-rising : (l : List Characteristic) (x : Which) → Rising l → Rising (with-one l x)
+pub with-one-rising : (l : List Characteristic) (x : Option Characteristic) → Rising l → Rising (with-one l x)
 unfolding with-one
-with-one-rising l Nothing u = u
-with-one-rising l (At c) u = enter-rising c l u
+with-one-rising l None u = u
+with-one-rising l (Some c) u = enter-rising c l u
 
 -- ---- the loop over the entries
 
@@ -83,7 +81,7 @@ module _ (s : List ℕ) (from end len : ℕ) (a₀ : List Characteristic) (n₀ 
   same-array b e = rw e (i, u)
 
   -- an entry is there, and tells x
-  module _ (big : end ≤ length s) (five : 5 ≤ len) (h : at + len ≤ end) (x : Which) (ex : x ≡ told (part at (at + len) s)) where
+  module _ (big : end ≤ length s) (five : 5 ≤ len) (h : at + len ≤ end) (x : Option Characteristic) (ex : x ≡ told (part at (at + len) s)) where
     size : length (take n a) ≡ n
     size = length-take-le n a (omega (arith, i.count, i.size))
 
@@ -99,12 +97,12 @@ module _ (s : List ℕ) (from end len : ℕ) (a₀ : List Characteristic) (n₀ 
           )
 
       -- the entry tells of none
-      pub skips : x ≡ Nothing → Going more declaration_of 64 s from end len a₀ n₀ none a n y (at + len) × Rising (take n a)
+      pub skips : x ≡ None → Going more declaration_of 64 s from end len a₀ n₀ none a n y (at + len) × Rising (take n a)
       skips e =
           goes_on_lem (take n a) (sym (with_nothing (take n a) x e)) (omega (arith, size)) (omega (arith, size, i.count)) a n
           (sym (onto-self a n (omega (arith, i.count, i.size)))) (sym size)
 
-    module _ (c : Characteristic) (e : x ≡ At c) (p : ℕ) (ep : p ≡ place c.declaration (take n a)) where
+    module _ (c : Characteristic) (e : x ≡ Some c) (p : ℕ) (ep : p ≡ place c.declaration (take n a)) where
       entered : with-one (take n a) x ≡ enter c (take n a)
       entered = with-entered (take n a) x c e
 

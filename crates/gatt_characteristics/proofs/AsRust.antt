@@ -1,4 +1,5 @@
 -- The Rust's way (specs/Rust) leaves the list that the table holds.
+use Rattle.std.specs.Prelude.{Option, Some, None}
 use Prim.Native.Nat.{ℕ, suc, ◌≤◌}
 use mathlib.Core.Path.{◌≡◌, refl, sym, ap, ◌∙◌}
 use mathlib.Core.Bool.{Bool, true, false}
@@ -12,8 +13,6 @@ use Rattle.lists.specs.Taken.{Have, have, taken}
 use Rattle.gatt_characteristics.specs.Characteristic.{Up, Rising, without, put, enter, told, with-one, more, declaration_of}
 use Rattle.gatt_characteristics.specs.Rust.{sorted, pushed, and_then, told_all}
 use Rattle.gatt_characteristics.specs.declared.Characteristic.{Characteristic}
-use Rattle.gatt_characteristics.specs.declared.Which.{Which}
-use Rattle.gatt_characteristics.specs.declared.Which.TheVariants.{At, Nothing}
 use Rattle.gatt_characteristics.proofs.RisingLaws.{put_up}
 
 -- each entered in turn
@@ -160,10 +159,10 @@ sorted-rising m [] u = refl
 sorted-rising m (x ∷ xs) u =
     ap (put x) (sorted-rising (suc x.declaration) xs u.1) ∙ put_up x (suc x.declaration) xs (omega arith) u.1
 
-more-enters : (l : List Characteristic) (x : Which) (cs : List Characteristic) → enter_all (with-one l x) cs ≡ enter_all l (and_then x cs)
+more-enters : (l : List Characteristic) (x : Option Characteristic) (cs : List Characteristic) → enter_all (with-one l x) cs ≡ enter_all l (and_then x cs)
 unfolding enter_all with-one
-more-enters l (At c) cs = refl
-more-enters l Nothing cs = refl
+more-enters l (Some c) cs = refl
+more-enters l None cs = refl
 
 taken-enters : (l : List Characteristic) (last : ℕ) (es : List (List ℕ)) → (taken more declaration_of 64 l last es).full ≡ false
     → (taken more declaration_of 64 l last es).list ≡ enter_all l (told_all es)

@@ -1,6 +1,6 @@
 -- Characteristics, and what an answer adds to them (Core Vol 3 Part G 3.3.1, 4.6.1: each entry is the handle of a declaration, then
 -- the properties, the value handle and the UUID that it declares; 01, 'Sizes' and 'fit': strictly rising by declaration).
-use Rattle.std.specs.Prelude.{ℕ, suc, ◌≤◌, Bool, true, false, List, [], ◌∷◌, length, take, drop, get_or, eqb, ltb, leb}
+use Rattle.std.specs.Prelude.{ℕ, suc, ◌≤◌, Bool, true, false, List, [], ◌∷◌, length, take, drop, get_or, eqb, ltb, leb, Option, Some, None}
 use Rattle.bytes_base.specs.Choice.{pick}
 use Rattle.bytes_base.specs.Bytes.{le_at}
 use Rattle.uuid_value.specs.Value.{num, att_uuid}
@@ -11,11 +11,8 @@ use Rattle.state_places.specs.Sizes.{most_characteristics}
 use Rattle.lists.specs.Queue.{onto}
 use Rattle.lists.specs.First.{first}
 use Rattle.lists.specs.Taken.{Have, taken}
-use Rattle.gatt_characteristics.specs.declared.Cccd.TheVariants.{Unknown}
 use Rattle.gatt_characteristics.specs.declared.Characteristic.{Characteristic}
 use Rattle.gatt_characteristics.specs.declared.Characteristics.{Characteristics}
-use Rattle.gatt_characteristics.specs.declared.Which.{Which}
-use Rattle.gatt_characteristics.specs.declared.Which.TheVariants.{At, Nothing}
 use Rattle.gatt_characteristics.specs.declared.Found.{Found}
 
 -- ---- a table and its list
@@ -30,7 +27,7 @@ holding t l = record { kept = onto t.kept l; count = length l }
 
 -- a characteristic of zeros
 abbrev pub zero-characteristic : Characteristic
-zero-characteristic = record { declaration = 0; properties = 0; value_handle = 0; uuid = record { low = 0; high = 0 }; cccd = Unknown }
+zero-characteristic = record { declaration = 0; properties = 0; value_handle = 0; uuid = record { low = 0; high = 0 }; cccd = None }
 
 -- a table with nothing in it; its places stay
 abbrev pub cleared : Characteristics → Characteristics
@@ -75,21 +72,21 @@ abbrev pub declaration_of : List ℕ → ℕ
 declaration_of e = le_at 2 e 0
 
 -- by what its UUID bytes are
-abbrev pub told_by : List ℕ → read.Read → Which
+abbrev pub told_by : List ℕ → read.Read → Option Characteristic
 told_by e (read-variants.Is u) =
-    At (record { declaration = declaration_of e; properties = get_or e 2 0; value_handle = le_at 2 e 3; uuid = u; cccd = Unknown })
-told_by e read-variants.Nothing = Nothing
+    Some (record { declaration = declaration_of e; properties = get_or e 2 0; value_handle = le_at 2 e 3; uuid = u; cccd = None })
+told_by e read-variants.Nothing = None
 
 -- the characteristic that an entry tells of, if its UUID has 2 or 16 bytes
-unfoldable pub told : List ℕ → Which
+unfoldable pub told : List ℕ → Option Characteristic
 told e = told_by e (att_uuid (drop 5 e))
 
 -- ---- an answer
 
 -- the list with what an entry tells entered
-unfoldable pub with-one : List Characteristic → Which → List Characteristic
-with-one l Nothing = l
-with-one l (At c) = enter c l
+unfoldable pub with-one : List Characteristic → Option Characteristic → List Characteristic
+with-one l None = l
+with-one l (Some c) = enter c l
 
 -- the list once an entry is read
 abbrev pub more : List Characteristic → List ℕ → List Characteristic
@@ -106,5 +103,5 @@ characteristics_taken t none es = found_by t (taken more declaration_of most_cha
 -- ---- the search
 
 -- the first characteristic with a UUID
-abbrev pub characteristic_with : Uuid → List Characteristic → Which
-characteristic_with u l = first (λ (x : Characteristic). eqb (num x.uuid) (num u)) At Nothing l
+abbrev pub characteristic_with : Uuid → List Characteristic → Option Characteristic
+characteristic_with u l = first (λ (x : Characteristic). eqb (num x.uuid) (num u)) Some None l

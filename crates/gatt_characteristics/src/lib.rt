@@ -9,20 +9,14 @@ ghost use Rattle.gatt_characteristics.specs.Characteristic.{known, Rising, told,
 use state_places::MAX_CHARACTERISTICS;
 use uuid_value::Uuid;
 
-// Where the Client Characteristic Configuration descriptor stands, once it is known.
-#[derive(Clone, Copy)]
-pub enum Cccd {
-    Unknown,
-    At(u16),
-}
-
 #[derive(Clone, Copy)]
 pub struct Characteristic {
     pub declaration: u16,
     pub properties: u8,
     pub value_handle: u16,
     pub uuid: Uuid,
-    pub cccd: Cccd,
+    // Where the Client Characteristic Configuration descriptor stands, once it is known.
+    pub cccd: Option<u16>,
 }
 
 // The first count of kept are known. The rest is dead.
@@ -30,13 +24,6 @@ pub struct Characteristic {
 pub struct Characteristics {
     pub kept: [Characteristic; 64],
     pub count: usize,
-}
-
-// A characteristic, or none.
-#[derive(Clone, Copy)]
-pub enum Which {
-    At(Characteristic),
-    Nothing,
 }
 
 // The table after an answer, the declaration of the last entry read, and whether an entry had no place.
@@ -55,7 +42,7 @@ const VALUE_AT: usize = 3;
 const UUID_AT: usize = 5;
 
 // The characteristic that the entry from a to b tells of.
-fn told_at(s: &[u8], a: usize, b: usize) -> Which
+fn told_at(s: &[u8], a: usize, b: usize) -> Option<Characteristic>
     requires { (a + 5 ≤ b) × (b ≤ length s.now) }
     ensures { result ≡ told (part a b s.now) }
 {
@@ -63,14 +50,14 @@ fn told_at(s: &[u8], a: usize, b: usize) -> Which
     let properties = s[a + PROPERTIES_AT];
     let value_handle = bytes_numbers::le16(s, a + VALUE_AT);
     match Uuid::from_att(&s[a + UUID_AT..b]) {
-        uuid_value::Read::Is(uuid) => Which::At(Characteristic {
+        uuid_value::Read::Is(uuid) => Some(Characteristic {
             declaration,
             properties,
             value_handle,
             uuid,
-            cccd: Cccd::Unknown,
+            cccd: None,
         }),
-        uuid_value::Read::Nothing => Which::Nothing,
+        uuid_value::Read::Nothing => None,
     }
 }
 
@@ -97,7 +84,7 @@ pub fn take_characteristics(
         let before = last;
         last = bytes_numbers::le16(s, at);
         at = next;
-        if let Which::At(c) = told {
+        if let Some(c) = told {
             // An answer tells of them in rising order, so the search begins at the end.
             let mut p = count;
             while 0 < p {

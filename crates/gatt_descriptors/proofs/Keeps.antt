@@ -1,4 +1,5 @@
 -- What naming descriptors keeps, for those who call: the table's size and its order.
+use Rattle.std.specs.Prelude.{Option, Some, None}
 use Prim.Native.Nat.{ℕ, suc, ◌≤◌}
 use mathlib.Core.Path.{◌≡◌, refl, ◌∙◌}
 use mathlib.Core.Bool.{Bool, true, false}
@@ -13,8 +14,6 @@ use Rattle.uuid_value.specs.declared.Read as read
 use Rattle.uuid_value.specs.declared.Read.TheVariants as read-variants
 use Rattle.lists.proofs.TableLaws.{take-onto}
 use Rattle.gatt_characteristics.specs.Characteristic.{known, Up, Rising}
-use Rattle.gatt_characteristics.specs.declared.Cccd.{Cccd}
-use Rattle.gatt_characteristics.specs.declared.Cccd.TheVariants.{Unknown, At}
 use Rattle.gatt_characteristics.specs.declared.Characteristic.{Characteristic}
 use Rattle.gatt_characteristics.specs.declared.Characteristics.{Characteristics}
 use Rattle.gatt_descriptors.specs.Named.{cccd_type, mark_by, marked, below, give, handle_of, give_by, given, given_all, descriptors_named}
@@ -22,9 +21,9 @@ use Rattle.gatt_descriptors.proofs.NamedLaws.{length-given_all}
 
 -- ---- a CCCD changes no declaration
 
-mark-declaration : (h : ℕ) (c : Characteristic) (k : Cccd) → (mark_by h c k).declaration ≡ c.declaration
-mark-declaration h c Unknown = refl
-mark-declaration h c (At k) = refl
+mark-declaration : (h : ℕ) (c : Characteristic) (k : Option ℕ) → (mark_by h c k).declaration ≡ c.declaration
+mark-declaration h c None = refl
+mark-declaration h c (Some k) = refl
 
 give-up : (h m : ℕ) (l : List Characteristic) → Up m l → Up m (give h l)
 unfolding give

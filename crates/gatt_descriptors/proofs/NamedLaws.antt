@@ -1,4 +1,5 @@
 -- Laws of an answer that names descriptors: one entry, and the loop over them.
+use Rattle.std.specs.Prelude.{Some, None}
 use Prim.Native.Nat.{ℕ, ◌+◌, ◌≤◌, ◌<◌}
 use mathlib.Core.Path.{◌≡◌, refl, sym, ap, ◌∙◌}
 use mathlib.Core.Bool.{Bool, true, false}
@@ -17,15 +18,14 @@ use Rattle.lists.specs.Cut.{entries, part}
 use Rattle.lists.proofs.CutLaws.{entry_here, entry-end, drop-part, le_at-part}
 use Rattle.lists.proofs.TableLaws.{onto-onto, take-onto, length-onto}
 use Rattle.gatt_characteristics.specs.Characteristic.{known, holding}
-use Rattle.gatt_characteristics.specs.declared.Cccd.TheVariants.{Unknown, At}
 use Rattle.gatt_characteristics.specs.declared.Characteristic.{Characteristic}
 use Rattle.gatt_characteristics.specs.declared.Characteristics.{Characteristics}
 use Rattle.gatt_characteristics.proofs.Keeps.{holding-known}
 use Rattle.gatt_descriptors.specs.Named.{cccd_type, marked, give, handle_of, give_by, given, given_all, after, descriptors_named}
 use Rattle.gatt_descriptors.proofs.GiveLaws.{length-give}
 
-pub mark-new : (h : ℕ) (c : Characteristic) → c.cccd ≡ Unknown
-    → record { declaration = c.declaration; properties = c.properties; value_handle = c.value_handle; uuid = c.uuid; cccd = At h } ≡ marked h c
+pub mark-new : (h : ℕ) (c : Characteristic) → c.cccd ≡ None
+    → record { declaration = c.declaration; properties = c.properties; value_handle = c.value_handle; uuid = c.uuid; cccd = Some h } ≡ marked h c
 mark-new h c e = rw e
 
 -- ---- one entry, read where it stands

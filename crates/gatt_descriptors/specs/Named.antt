@@ -1,6 +1,6 @@
 -- What an answer that names descriptors does (Core Vol 3 Part F 3.4.3.2: each entry is a handle and a type; 01: a CCCD goes to the last
 -- characteristic, of any service, with value handle below it, unless that has one).
-use Rattle.std.specs.Prelude.{ℕ, ◌+◌, Bool, true, false, List, [], ◌∷◌, drop, eqb, ltb}
+use Rattle.std.specs.Prelude.{ℕ, ◌+◌, Bool, true, false, List, [], ◌∷◌, drop, eqb, ltb, Option, Some, None}
 use Rattle.bytes_base.specs.Choice.{pick}
 use Rattle.bytes_base.specs.Bytes.{le_at}
 use Rattle.uuid_value.specs.Value.{num, short_of, att_uuid}
@@ -8,8 +8,6 @@ use Rattle.uuid_value.specs.declared.Read as read
 use Rattle.uuid_value.specs.declared.Read.TheVariants as read-variants
 use Rattle.lists.specs.First.{first}
 use Rattle.gatt_characteristics.specs.Characteristic.{known, holding}
-use Rattle.gatt_characteristics.specs.declared.Cccd.{Cccd}
-use Rattle.gatt_characteristics.specs.declared.Cccd.TheVariants.{Unknown, At}
 use Rattle.gatt_characteristics.specs.declared.Characteristic.{Characteristic}
 use Rattle.gatt_characteristics.specs.declared.Characteristics.{Characteristics}
 use Rattle.gatt_descriptors.specs.declared.Named.{Named}
@@ -19,10 +17,10 @@ abbrev pub cccd_type : ℕ
 cccd_type = 0x2902
 
 -- by what is known of its CCCD
-abbrev pub mark_by : ℕ → Characteristic → Cccd → Characteristic
-mark_by h c Unknown =
-    record { declaration = c.declaration; properties = c.properties; value_handle = c.value_handle; uuid = c.uuid; cccd = At h }
-mark_by h c (At k) = c
+abbrev pub mark_by : ℕ → Characteristic → Option ℕ → Characteristic
+mark_by h c None =
+    record { declaration = c.declaration; properties = c.properties; value_handle = c.value_handle; uuid = c.uuid; cccd = Some h }
+mark_by h c (Some k) = c
 
 -- the characteristic with its CCCD at h, unless it has one
 abbrev pub marked : ℕ → Characteristic → Characteristic

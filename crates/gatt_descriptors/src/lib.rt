@@ -7,15 +7,8 @@ ghost use Rattle.lists.specs.Cut.{entries, part};
 ghost use Rattle.gatt_characteristics.specs.Characteristic.{known, holding};
 ghost use Rattle.gatt_descriptors.specs.Named.{marked, give, given, descriptors_named};
 
-use gatt_characteristics::{Cccd, Characteristic, Characteristics};
+use gatt_characteristics::{Characteristic, Characteristics};
 use uuid_value::Uuid;
-
-// The handles of one request, or none.
-#[derive(Clone, Copy)]
-pub enum Range {
-    Nothing,
-    Is(u16, u16),
-}
 
 // The table after an answer, and the handle after the last one that it names. 65,536 is past all handles.
 #[derive(Clone, Copy)]
@@ -37,14 +30,14 @@ fn mark(c: Characteristic, h: u16) -> Characteristic
     let known = c.cccd;
     let uuid = c.uuid;
     match known {
-        Cccd::Unknown => Characteristic {
+        None => Characteristic {
             declaration: c.declaration,
             properties: c.properties,
             value_handle: c.value_handle,
             uuid,
-            cccd: Cccd::At(h),
+            cccd: Some(h),
         },
-        Cccd::At(_) => c,
+        Some(_) => c,
     }
 }
 

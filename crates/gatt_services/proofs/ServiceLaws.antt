@@ -1,4 +1,5 @@
 -- A law for each way out of the code, over plain variables.
+use Rattle.std.specs.Prelude.{Option, Some, None}
 use Prim.Native.Nat.{ℕ, ◌+◌, ◌≤◌, ◌<◌}
 use mathlib.Core.Path.{◌≡◌, refl, sym, ap, ap₂, ◌∙◌}
 use mathlib.Core.Bool.{Bool, true, false}
@@ -22,30 +23,28 @@ use Rattle.lists.proofs.TakenLaws.{Going, goes, no_place}
 use Rattle.gatt_services.specs.Service.{told, listed, with-one, more, end_of, found_by}
 use Rattle.gatt_services.specs.declared.Service.{Service}
 use Rattle.gatt_services.specs.declared.Services.{Services}
-use Rattle.gatt_services.specs.declared.Which.{Which}
-use Rattle.gatt_services.specs.declared.Which.TheVariants.{At, Nothing}
 
 -- ---- what the bytes of an entry tell, read where they stand
 
 module _ (s : List ℕ) (a b : ℕ) (r : read.Read) (h : a + 4 ≤ b) (e : r ≡ att_uuid (part (a + 4) b s)) where
   pub told_is : (x y : ℕ) (u : Uuid) → b ≤ length s → x ≡ le_at 2 s a → y ≡ le_at 2 s (a + 2) → r ≡ read-variants.Is u
-      → At (record { start = x; end = y; uuid = u }) ≡ told (part a b s)
+      → Some (record { start = x; end = y; uuid = u }) ≡ told (part a b s)
   unfolding told
   told_is x y u g e₁ e₂ e₃ =
       rw (← le_at-part 2 a b 0 a s (omega arith) (omega arith) g, ← le_at-part 2 a b 2 (a + 2) s refl (omega arith) g, drop-part a b 4 s h, ← e, e₃, e₁, e₂)
 
-  pub told-not : r ≡ read-variants.Nothing → Nothing ≡ told (part a b s)
+  pub told-not : r ≡ read-variants.Nothing → None ≡ told (part a b s)
   unfolding told
   told-not e₃ = rw (drop-part a b 4 s h, ← e, e₃)
 
 -- ---- the list after what an entry tells
 
-module _ (l : List Service) (x : Which) where
-  pub with_nothing : x ≡ Nothing → with-one l x ≡ l
+module _ (l : List Service) (x : Option Service) where
+  pub with_nothing : x ≡ None → with-one l x ≡ l
   unfolding with-one
   with_nothing e = rw e
 
-  module _ (new : Service) (e : x ≡ At new) where
+  module _ (new : Service) (e : x ≡ Some new) where
     pub with-listed : listed new.start l ≡ true → with-one l x ≡ l
     unfolding with-one
     with-listed f = rw (e, f)
@@ -68,7 +67,7 @@ found-is t a n last f h e k l g =
 -- an entry is there, and tells x
 module _ (s : List ℕ) (from end len : ℕ) (a₀ : List Service) (n₀ : ℕ) (a : List Service) (n last at : ℕ)
     (i : Going more end_of 32 s from end len a₀ n₀ 65535 a n last at) (big : end ≤ length s) (p : 4 ≤ len) (h : at + len ≤ end)
-    (x : Which) (ex : x ≡ told (part at (at + len) s)) where
+    (x : Option Service) (ex : x ≡ told (part at (at + len) s)) where
   size : length (take n a) ≡ n
   size = length-take-le n a (omega (arith, i.count, i.size))
 

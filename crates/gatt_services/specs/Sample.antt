@@ -1,5 +1,5 @@
 -- Worked answers: the definitions compute.
-use Rattle.std.specs.Prelude.{ℕ, ◌≡◌, refl, true, false, List, [], ◌∷◌}
+use Rattle.std.specs.Prelude.{ℕ, ◌≡◌, refl, true, false, List, [], ◌∷◌, Some}
 use Rattle.bytes_base.specs.Bytes.{le, le_at}
 use Rattle.uuid_value.specs.Value.{att_uuid, short_of}
 use Rattle.lists.specs.Cut.{entries, chunks}
@@ -7,7 +7,6 @@ use Rattle.lists.specs.First.{first}
 use Rattle.lists.specs.Taken.{have, taken}
 use Rattle.gatt_services.specs.Service.{more, with-one, told, end_of, service_with}
 use Rattle.gatt_services.specs.declared.Service.{Service}
-use Rattle.gatt_services.specs.declared.Which.TheVariants.{At}
 
 abbrev old : Service
 old = record { start = 6; end = 7; uuid = short_of 0x1800 }
@@ -28,6 +27,6 @@ one_place : taken more end_of 1 (old ∷ []) 65535 (entries 6 answer) ≡ have (
 unfolding taken with-one told first entries chunks le le_at att_uuid
 one_place = refl
 
-the-first : service_with (short_of 0x180F) (old ∷ new ∷ []) ≡ At new
+the-first : service_with (short_of 0x180F) (old ∷ new ∷ []) ≡ Some new
 unfolding first
 the-first = refl

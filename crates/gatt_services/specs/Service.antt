@@ -1,5 +1,5 @@
 -- Services, and what an answer adds to them (Core Vol 3 Part G 4.4.1: each entry is a start handle, an end handle and a UUID; 01, 'Sizes').
-use Rattle.std.specs.Prelude.{ℕ, Bool, true, false, List, [], ◌∷◌, ◌++◌, length, take, drop, eqb}
+use Rattle.std.specs.Prelude.{ℕ, Bool, true, false, List, [], ◌∷◌, ◌++◌, length, take, drop, eqb, Option, Some, None}
 use Rattle.bytes_base.specs.Choice.{pick}
 use Rattle.bytes_base.specs.Bytes.{le_at}
 pub use Rattle.att_pdu.specs.Numbers.{last_handle}
@@ -13,8 +13,6 @@ use Rattle.lists.specs.First.{first}
 use Rattle.lists.specs.Taken.{Have, taken}
 use Rattle.gatt_services.specs.declared.Service.{Service}
 use Rattle.gatt_services.specs.declared.Services.{Services}
-use Rattle.gatt_services.specs.declared.Which.{Which}
-use Rattle.gatt_services.specs.declared.Which.TheVariants.{At, Nothing}
 use Rattle.gatt_services.specs.declared.Found.{Found}
 
 -- ---- a table and its list
@@ -44,12 +42,12 @@ abbrev pub end_of : List ℕ → ℕ
 end_of e = le_at 2 e 2
 
 -- by what its UUID bytes are
-abbrev pub told_by : ℕ → ℕ → read.Read → Which
-told_by s n (read-variants.Is u) = At (record { start = s; end = n; uuid = u })
-told_by s n read-variants.Nothing = Nothing
+abbrev pub told_by : ℕ → ℕ → read.Read → Option Service
+told_by s n (read-variants.Is u) = Some (record { start = s; end = n; uuid = u })
+told_by s n read-variants.Nothing = None
 
 -- the service that an entry tells of, if its UUID has 2 or 16 bytes
-unfoldable pub told : List ℕ → Which
+unfoldable pub told : List ℕ → Option Service
 told e = told_by (start_of e) (end_of e) (att_uuid (drop 4 e))
 
 -- ---- an answer
@@ -59,9 +57,9 @@ abbrev pub listed : ℕ → List Service → Bool
 listed n l = first (λ (x : Service). eqb x.start n) (λ (x : Service). true) false l
 
 -- the list with one more at its end, if its start is new
-unfoldable pub with-one : List Service → Which → List Service
-with-one l Nothing = l
-with-one l (At s) = pick (listed s.start l) l (l ++ (s ∷ []))
+unfoldable pub with-one : List Service → Option Service → List Service
+with-one l None = l
+with-one l (Some s) = pick (listed s.start l) l (l ++ (s ∷ []))
 
 -- the list once an entry is read
 abbrev pub more : List Service → List ℕ → List Service
@@ -78,5 +76,5 @@ services_taken t es = found_by t (taken more end_of most_services (known t) last
 -- ---- the search
 
 -- the first service with a UUID
-abbrev pub service_with : Uuid → List Service → Which
-service_with u l = first (λ (x : Service). eqb (num x.uuid) (num u)) At Nothing l
+abbrev pub service_with : Uuid → List Service → Option Service
+service_with u l = first (λ (x : Service). eqb (num x.uuid) (num u)) Some None l

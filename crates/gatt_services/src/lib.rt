@@ -23,13 +23,6 @@ pub struct Services {
     pub count: usize,
 }
 
-// A service, or none.
-#[derive(Clone, Copy)]
-pub enum Which {
-    At(Service),
-    Nothing,
-}
-
 // The table after an answer, the end handle of the last entry read, and whether an entry had no place.
 #[derive(Clone, Copy)]
 pub struct Found {
@@ -44,15 +37,15 @@ const END_AT: usize = 2;
 const UUID_AT: usize = 4;
 
 // The service that the entry from a to b tells of.
-fn told_at(s: &[u8], a: usize, b: usize) -> Which
+fn told_at(s: &[u8], a: usize, b: usize) -> Option<Service>
     requires { (a + 4 ≤ b) × (b ≤ length s.now) }
     ensures { result ≡ told (part a b s.now) }
 {
     let start = bytes_numbers::le16(s, a);
     let end = bytes_numbers::le16(s, a + END_AT);
     match Uuid::from_att(&s[a + UUID_AT..b]) {
-        uuid_value::Read::Is(uuid) => Which::At(Service { start, end, uuid }),
-        uuid_value::Read::Nothing => Which::Nothing,
+        uuid_value::Read::Is(uuid) => Some(Service { start, end, uuid }),
+        uuid_value::Read::Nothing => None,
     }
 }
 
@@ -72,7 +65,7 @@ pub fn take_services(t: Services, s: &[u8], from: usize, end: usize, len: usize)
         let before = last;
         last = bytes_numbers::le16(s, at + END_AT);
         at = next;
-        if let Which::At(new) = told {
+        if let Some(new) = told {
             let mut i = 0;
             while i < count {
                 let x = kept[i];

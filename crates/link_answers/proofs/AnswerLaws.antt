@@ -1,4 +1,5 @@
 -- What each return asks, from what the callees ensure.
+use Rattle.std.specs.Prelude.{Option}
 use Prim.Native.Nat.{ℕ, ◌+◌, ◌≤◌, zero, suc}
 use mathlib.Core.Path.{◌≡◌, sym, ap, ◌∙◌}
 use mathlib.Core.Bool.{Bool}
@@ -14,7 +15,6 @@ use Rattle.time.specs.declared.Micros.{Micros}
 use Rattle.att_pdu.specs.Numbers.{op_read_rsp}
 use Rattle.gatt_services.specs.declared.Service.{Service}
 use Rattle.gatt_characteristics.specs.declared.Characteristics.{Characteristics}
-use Rattle.gatt_descriptors.specs.declared.Range.{Range}
 use Rattle.gatt_descriptors.specs.Range.{descriptor_range}
 use Rattle.state.specs.Central as state
 use Rattle.state.specs.declared.Bearer.{Bearer}
@@ -38,10 +38,10 @@ unask-law t b e w s o =
 
 -- ---- the range that was asked for
 
-module _ (c : Core) (x : Characteristics) (svc : Service) (g : Range) (k : g ≡ descriptor_range x svc.start svc.end c.running.cursor) where
-  pub after-law : (y : Range) → g ≡ y
+module _ (c : Core) (x : Characteristics) (svc : Service) (g : Option (ℕ × ℕ)) (k : g ≡ descriptor_range x svc.start svc.end c.running.cursor) where
+  pub after-law : (y : Option (ℕ × ℕ)) → g ≡ y
       → range_end svc.end y + 1 ≡ range_end svc.end (descriptor_range x svc.start svc.end c.running.cursor) + 1
-  after-law y h = ap (λ (z : Range). range_end svc.end z + 1) (sym h ∙ k)
+  after-law y h = ap (λ (z : Option (ℕ × ℕ)). range_end svc.end z + 1) (sym h ∙ k)
 
 -- ---- a step ends
 

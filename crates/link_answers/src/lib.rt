@@ -15,7 +15,6 @@ ghost use Rattle.link_rules.specs.Moves.{over, become, value_read, after_range, 
 ghost use Rattle.state_core.specs.Reading.{central, held, world};
 
 use att_pdu::op;
-use gatt_descriptors::Range;
 use gatt_services::Service;
 use state::StepStatus;
 use state_core::{Core, Turn};
@@ -51,11 +50,11 @@ pub fn after_range(c: Core, tables: &[u64; 1152], svc: Service) -> u32
         svc.end,
         running.cursor,
     ) {
-        Range::Nothing => {
+        None => {
             let end = svc.end as u32;
             end + 1
         }
-        Range::Is(_, to) => {
+        Some((_, to)) => {
             let end = to as u32;
             end + 1
         }

@@ -1,4 +1,5 @@
 -- A table written where it stands and a count are the state with that table; from there a walk is what it was over tables by value.
+use Rattle.std.specs.Prelude.{Some}
 use Prim.Native.Nat.{ℕ, ◌+◌, ◌-◌, ◌≤◌}
 use mathlib.Core.Path.{◌≡◌, refl, sym, ap, subst, ◌∙◌}
 use mathlib.Core.Bool.{Bool}
@@ -6,7 +7,6 @@ use mathlib.Core.List.{List}
 use Rattle.time.specs.declared.Micros.{Micros}
 use Rattle.gatt_services.specs.declared.Service.{Service}
 use Rattle.gatt_services.specs.declared.Found as services-found
-use Rattle.gatt_services.specs.declared.Which.TheVariants as which-service
 use Rattle.gatt_characteristics.specs.declared.Characteristics.{Characteristics}
 use Rattle.gatt_characteristics.specs.declared.Found as characteristics-found
 use Rattle.lists.specs.Cut.{entries, part}
@@ -126,7 +126,7 @@ module _ (t : Turn) (w w' s o : List ℕ) (end size k last : ℕ) (full : Bool) 
 
     pub characteristics-go : (at : Micros) (n : ℕ) → 7 ≤ size → end ≡ payload_at + 2 + (n - 2)
         → characteristics_entered (world (with-characteristics t k) w' s o) at svc last full
-        ≡ characteristics_heard (world t w s o) at n size (which-service.At svc)
+        ≡ characteristics_heard (world t w s o) at n size (Some svc)
     characteristics-go at n h f =
         ap (λ (x : World). characteristics_entered x at svc last full) characteristics-in
         ∙ ap (λ (x : ℕ). characteristics_entered (holds t w s o characteristics-read.table) at svc x full) e.2
@@ -159,7 +159,7 @@ module _ (t : Turn) (w w' s o : List ℕ) (end size first goes : ℕ) (h : t.cor
 
     pub descriptors-go : (at : Micros) (svc : Service) (n format : ℕ) → size ≡ width_of format → first ≡ after_range (world t w s o) svc
         → (size ≡ 0 → ⊥) → end ≡ payload_at + 2 + (n - 2)
-        → go_on (world t w' s o) at svc goes ≡ descriptors_heard (world t w s o) at n format (which-service.At svc)
+        → go_on (world t w' s o) at svc goes ≡ descriptors_heard (world t w s o) at n format (Some svc)
     descriptors-go at svc n format f g k m =
         ap (λ (x : World). go_on x at svc goes) descriptors-put
         ∙ ap (go_on (holds t w s o descriptors-read.table) at svc) e.1

@@ -1,8 +1,7 @@
 // Discovery's answers: services, then the characteristics of a service, then their descriptors.
 #![tactic(auto)]
 
-ghost use Rattle.std.specs.Prelude.{◌≡◌, ◌≤◌};
-ghost use Rattle.gatt_services.specs.declared.Which.TheVariants as which-service;
+ghost use Rattle.std.specs.Prelude.{◌≡◌, ◌≤◌, Some};
 ghost use Rattle.link_rules.specs.Payload.{payload_size};
 ghost use Rattle.link_rules.specs.Able.{Able};
 ghost use Rattle.link_rules.specs.Services.{walk_into, services_done, services_heard};
@@ -10,7 +9,7 @@ ghost use Rattle.link_rules.specs.Characteristics.{characteristics_heard, charac
 ghost use Rattle.state_core.specs.Reading.{world};
 ghost use Rattle.link_discovery.specs.Entered.{services_entered, characteristics_entered};
 
-use gatt_services::{Service, Which};
+use gatt_services::Service;
 use link_questions::Goal;
 use state::StepStatus;
 use state_core::Turn;
@@ -31,14 +30,14 @@ fn walk_into(
     store: &mut [u8],
     out: &mut [u8],
     at: Micros,
-    x: Which,
+    x: Option<Service>,
 ) -> Turn
     requires { Able (world t tables.old store.old out.old) }
     ensures { world result tables.new store.new out.new ≡ walk_into (world t tables.old store.old out.old) at x }
 {
     match x {
-        Which::Nothing => script_turns::end_turn(t, tables, store, at, StepStatus::NotFound),
-        Which::At(svc) => {
+        None => script_turns::end_turn(t, tables, store, at, StepStatus::NotFound),
+        Some(svc) => {
             let start = svc.start;
             script_discovery::discover_characteristics(t, tables, store, out, at, svc, start)
         }
@@ -166,7 +165,7 @@ fn characteristics_in(
 ) -> Turn
     requires { Able (world t tables.old store.old out.old) × (n ≤ payload_size) }
     ensures { world result tables.new store.new out.new
-        ≡ characteristics_heard (world t tables.old store.old out.old) at n size (which-service.At svc) }
+        ≡ characteristics_heard (world t tables.old store.old out.old) at n size (Some svc) }
 {
     if size < CHARACTERISTIC_SIZE {
         let start = svc.start;
@@ -200,14 +199,14 @@ pub fn characteristics_heard(
     at: Micros,
     n: usize,
     size: usize,
-    x: Which,
+    x: Option<Service>,
 ) -> Turn
     requires { Able (world t tables.old store.old out.old) × (n ≤ payload_size) }
     ensures { world result tables.new store.new out.new ≡ characteristics_heard (world t tables.old store.old out.old) at n size x }
 {
     match x {
-        Which::Nothing => script_turns::end_turn(t, tables, store, at, StepStatus::NotFound),
-        Which::At(svc) => characteristics_in(t, tables, store, out, at, n, size, svc),
+        None => script_turns::end_turn(t, tables, store, at, StepStatus::NotFound),
+        Some(svc) => characteristics_in(t, tables, store, out, at, n, size, svc),
     }
 }
 
@@ -218,14 +217,14 @@ pub fn characteristics_done(
     store: &mut [u8],
     out: &mut [u8],
     at: Micros,
-    x: Which,
+    x: Option<Service>,
 ) -> Turn
     requires { Able (world t tables.old store.old out.old) }
     ensures { world result tables.new store.new out.new ≡ characteristics_done (world t tables.old store.old out.old) at x }
 {
     match x {
-        Which::Nothing => script_turns::end_turn(t, tables, store, at, StepStatus::NotFound),
-        Which::At(svc) => {
+        None => script_turns::end_turn(t, tables, store, at, StepStatus::NotFound),
+        Some(svc) => {
             let start = svc.start;
             script_discovery::discover_descriptors(t, tables, store, out, at, svc, start)
         }
@@ -268,7 +267,7 @@ fn descriptors_in(
 ) -> Turn
     requires { Able (world t tables.old store.old out.old) × (n ≤ payload_size) }
     ensures { world result tables.new store.new out.new
-        ≡ descriptors_heard (world t tables.old store.old out.old) at n format (which-service.At svc) }
+        ≡ descriptors_heard (world t tables.old store.old out.old) at n format (Some svc) }
 {
     let size = link_fields::width_of(format);
     let core = t.core;
@@ -299,14 +298,14 @@ pub fn descriptors_heard(
     at: Micros,
     n: usize,
     format: u8,
-    x: Which,
+    x: Option<Service>,
 ) -> Turn
     requires { Able (world t tables.old store.old out.old) × (n ≤ payload_size) }
     ensures { world result tables.new store.new out.new ≡ descriptors_heard (world t tables.old store.old out.old) at n format x }
 {
     match x {
-        Which::Nothing => script_turns::end_turn(t, tables, store, at, StepStatus::NotFound),
-        Which::At(svc) => descriptors_in(t, tables, store, out, at, n, format, svc),
+        None => script_turns::end_turn(t, tables, store, at, StepStatus::NotFound),
+        Some(svc) => descriptors_in(t, tables, store, out, at, n, format, svc),
     }
 }
 
@@ -317,14 +316,14 @@ pub fn range_done(
     store: &mut [u8],
     out: &mut [u8],
     at: Micros,
-    x: Which,
+    x: Option<Service>,
 ) -> Turn
     requires { Able (world t tables.old store.old out.old) }
     ensures { world result tables.new store.new out.new ≡ range_done (world t tables.old store.old out.old) at x }
 {
     match x {
-        Which::Nothing => script_turns::end_turn(t, tables, store, at, StepStatus::NotFound),
-        Which::At(svc) => {
+        None => script_turns::end_turn(t, tables, store, at, StepStatus::NotFound),
+        Some(svc) => {
             let core = t.core;
             let from = link_answers::after_range(core, tables, svc);
             go_on(t, tables, store, out, at, svc, from)

@@ -1,4 +1,5 @@
 -- What each return of an error asks, from what its callees ensure.
+use Rattle.std.specs.Prelude.{Option}
 use Prim.Native.Nat.{ℕ}
 use mathlib.Core.Path.{◌≡◌, sym, ap, ◌∙◌}
 use lib.Dec.{eqb}
@@ -6,7 +7,6 @@ use borrow.Author.Tests.{eq-eqb, ne_eqb}
 use Rattle.uuid_value.specs.declared.Uuid.{Uuid}
 use Rattle.time.specs.declared.Micros.{Micros}
 use Rattle.att_pdu.specs.Numbers.{err_attribute_not_found}
-use Rattle.gatt_services.specs.declared.Which as service-which
 use Rattle.state.specs.declared.StepStatus.TheVariants.{AttError}
 use Rattle.script_rules.specs.World.{World}
 use Rattle.link_questions.specs.declared.Goal.{Goal}
@@ -17,6 +17,7 @@ use Rattle.link_rules.specs.Moves.{over, service_of}
 use Rattle.link_rules.specs.Services.{services_done}
 use Rattle.link_rules.specs.Characteristics.{characteristics_done, range_done}
 use Rattle.link_rules.specs.Errors.{absent, failed}
+use Rattle.gatt_services.specs.declared.Service.{Service}
 
 module _ (w : World) (at : Micros) (a : Asked) where
   abbrev ends_with : World
@@ -30,12 +31,12 @@ module _ (w : World) (at : Micros) (a : Asked) where
   unfolding absent
   absent-services g e = sym (ap (absent w at) e)
 
-  pub absent-characteristics : (u : Uuid) (x : service-which.Which) → a ≡ asked-variants.Characteristics u → x ≡ service_of w u
+  pub absent-characteristics : (u : Uuid) (x : Option Service) → a ≡ asked-variants.Characteristics u → x ≡ service_of w u
       → characteristics_done w at x ≡ absent w at a
   unfolding absent
   absent-characteristics u x e f = ap (characteristics_done w at) f ∙ sym (ap (absent w at) e)
 
-  pub absent-descriptors : (u : Uuid) (x : service-which.Which) → a ≡ asked-variants.Descriptors u → x ≡ service_of w u
+  pub absent-descriptors : (u : Uuid) (x : Option Service) → a ≡ asked-variants.Descriptors u → x ≡ service_of w u
       → range_done w at x ≡ absent w at a
   unfolding absent
   absent-descriptors u x e f = ap (range_done w at) f ∙ sym (ap (absent w at) e)

@@ -1,4 +1,5 @@
 -- What each return of a response asks, from what its callees ensure.
+use Rattle.std.specs.Prelude.{Option}
 use Prim.Native.Nat.{ℕ}
 use mathlib.Core.Path.{◌≡◌, sym, ap, subst, ◌∙◌}
 use mathlib.Core.Bool.{Bool, true, false}
@@ -29,8 +30,8 @@ use Rattle.link_rules.specs.Responses.{present, taken, on_response}
 use Rattle.link_rules.specs.Errors.{failed}
 use Rattle.link_questions.specs.Questions.{asked_by}
 use Rattle.link_rules.specs.Answers.{smaller_mtu, counts}
-use Rattle.gatt_services.specs.declared.Which as service-which
 use Rattle.link_questions.specs.declared.Asked.TheVariants as asked-variants
+use Rattle.gatt_services.specs.declared.Service.{Service}
 
 -- ---- an answer of n bytes
 
@@ -57,13 +58,13 @@ module _ (w : World) (at : Micros) (n size : ℕ) (a : Asked) (f : size ≡ get_
   unfolding present
   present-services g e = ap (services_heard w at g n) f ∙ sym (ap (present w at n) e)
 
-  pub present-characteristics : (u : Uuid) (x : service-which.Which) → a ≡ asked-variants.Characteristics u → x ≡ service_of w u
+  pub present-characteristics : (u : Uuid) (x : Option Service) → a ≡ asked-variants.Characteristics u → x ≡ service_of w u
       → characteristics_heard w at n size x ≡ present w at n a
   unfolding present
   present-characteristics u x e k =
       ap (characteristics_heard w at n size) k ∙ ap (λ (y : ℕ). characteristics_heard w at n y (service_of w u)) f ∙ sym (ap (present w at n) e)
 
-  pub present-descriptors : (u : Uuid) (x : service-which.Which) → a ≡ asked-variants.Descriptors u → x ≡ service_of w u
+  pub present-descriptors : (u : Uuid) (x : Option Service) → a ≡ asked-variants.Descriptors u → x ≡ service_of w u
       → descriptors_heard w at n size x ≡ present w at n a
   unfolding present
   present-descriptors u x e k =

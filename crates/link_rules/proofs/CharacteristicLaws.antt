@@ -1,4 +1,5 @@
 -- What each return of the walk through characteristics and descriptors asks, from what its callees ensure.
+use Rattle.std.specs.Prelude.{Option, Some, None}
 use Prim.Native.Nat.{ℕ, ◌+◌, ◌-◌, ◌≤◌, ◌<◌}
 use mathlib.Core.Path.{◌≡◌, sym, ap, subst, ◌∙◌}
 use mathlib.Core.List.{List}
@@ -28,8 +29,6 @@ use Rattle.link_rules.proofs.AnswerLaws.{entries-are, yes, no}
 use Rattle.link_rules.proofs.AbleLaws.{few}
 use Rattle.gatt_characteristics.specs.Characteristic as characteristic
 use Rattle.gatt_characteristics.specs.declared.Found as characteristics-found
-use Rattle.gatt_services.specs.declared.Which as service-which
-use Rattle.gatt_services.specs.declared.Which.TheVariants as which-service
 
 -- ---- the tables that answers leave
 
@@ -54,7 +53,7 @@ descriptors-kept x y z first es f e g p =
 -- ---- characteristics
 
 module _ (w : World) (at : Micros) (n size : ℕ) where
-  pub heard-none : (x : service-which.Which) → x ≡ which-service.Nothing → over w at NotFound ≡ characteristics_heard w at n size x
+  pub heard-none : (x : Option Service) → x ≡ None → over w at NotFound ≡ characteristics_heard w at n size x
   unfolding characteristics_heard
   heard-none x e = sym (ap (characteristics_heard w at n size) e)
 
@@ -63,7 +62,7 @@ module _ (w : World) (at : Micros) (n size : ℕ) where
     characteristics-all =
         characteristic.characteristics_taken w.held.state.characteristics svc.end (entries size (bytes w.held.store (payload_at + 2) (n - 2)))
 
-    pub characteristics-none : size < 7 → discover_descriptors w at svc svc.start ≡ characteristics_heard w at n size (which-service.At svc)
+    pub characteristics-none : size < 7 → discover_descriptors w at svc svc.start ≡ characteristics_heard w at n size (Some svc)
     unfolding characteristics_heard
     characteristics-none h =
         yes (ltb size 7) (discover_descriptors w at svc svc.start) (characteristics_found w at svc characteristics-all) (lt-ltb size 7 h)
@@ -71,7 +70,7 @@ module _ (w : World) (at : Micros) (n size : ℕ) where
     pub characteristics-some : 7 ≤ size → (x : Characteristics) (end : ℕ) (f : characteristics-found.Found) → x ≡ w.held.state.characteristics
         → end ≡ payload_at + 2 + (n - 2)
         → f ≡ characteristic.characteristics_taken x svc.end (entries size (part (payload_at + 2) end w.held.store))
-        → characteristics_found w at svc f ≡ characteristics_heard w at n size (which-service.At svc)
+        → characteristics_found w at svc f ≡ characteristics_heard w at n size (Some svc)
     unfolding characteristics_heard
     characteristics-some h x end f e₁ e₂ e₃ =
         let q : f ≡ characteristics-all =
@@ -93,7 +92,7 @@ module _ (w : World) (at : Micros) (svc : Service) (from : ℕ) where
   none_within h = no (leb from svc.end) (discover_descriptors w at svc from) (over w at Ok) (lt-leb from svc.end h)
 
 module _ (w : World) (at : Micros) (n format : ℕ) where
-  pub named_none : (x : service-which.Which) → x ≡ which-service.Nothing → over w at NotFound ≡ descriptors_heard w at n format x
+  pub named_none : (x : Option Service) → x ≡ None → over w at NotFound ≡ descriptors_heard w at n format x
   unfolding descriptors_heard
   named_none x e = sym (ap (descriptors_heard w at n format) e)
 
@@ -102,7 +101,7 @@ module _ (w : World) (at : Micros) (n format : ℕ) where
     descriptors-all =
         descriptors_named w.held.state.characteristics (after_range w svc) (entries (width_of format) (bytes w.held.store (payload_at + 2) (n - 2)))
 
-    pub descriptors-none : size ≡ 0 → go_on w at svc first ≡ descriptors_heard w at n format (which-service.At svc)
+    pub descriptors-none : size ≡ 0 → go_on w at svc first ≡ descriptors_heard w at n format (Some svc)
     unfolding descriptors_heard
     descriptors-none h =
         ap (go_on w at svc) f
@@ -114,7 +113,7 @@ module _ (w : World) (at : Micros) (n format : ℕ) where
 
     pub descriptors-some : (size ≡ 0 → ⊥) → (x : Characteristics) (end : ℕ) (y : Named) → x ≡ w.held.state.characteristics
         → end ≡ payload_at + 2 + (n - 2) → y ≡ descriptors_named x first (entries size (part (payload_at + 2) end w.held.store))
-        → descriptors_found w at svc y ≡ descriptors_heard w at n format (which-service.At svc)
+        → descriptors_found w at svc y ≡ descriptors_heard w at n format (Some svc)
     unfolding descriptors_heard
     descriptors-some h x end y e₁ e₂ e₃ =
         let q : y ≡ descriptors-all =
@@ -133,20 +132,20 @@ module _ (w : World) (at : Micros) (n format : ℕ) where
 -- ---- an error: there is no such attribute
 
 module _ (w : World) (at : Micros) where
-  pub range_none : (x : service-which.Which) → x ≡ which-service.Nothing → over w at NotFound ≡ range_done w at x
+  pub range_none : (x : Option Service) → x ≡ None → over w at NotFound ≡ range_done w at x
   unfolding range_done
   range_none x e = sym (ap (range_done w at) e)
 
-  pub range-one : (x : service-which.Which) (svc : Service) (from : ℕ) → x ≡ which-service.At svc → from ≡ after_range w svc
+  pub range-one : (x : Option Service) (svc : Service) (from : ℕ) → x ≡ Some svc → from ≡ after_range w svc
       → go_on w at svc from ≡ range_done w at x
   unfolding range_done
   range-one x svc from e f = ap (go_on w at svc) f ∙ sym (ap (range_done w at) e)
 
-  pub walked_none : (x : service-which.Which) → x ≡ which-service.Nothing → over w at NotFound ≡ characteristics_done w at x
+  pub walked_none : (x : Option Service) → x ≡ None → over w at NotFound ≡ characteristics_done w at x
   unfolding characteristics_done
   walked_none x e = sym (ap (characteristics_done w at) e)
 
-  pub walked_one : (x : service-which.Which) (svc : Service) → x ≡ which-service.At svc
+  pub walked_one : (x : Option Service) (svc : Service) → x ≡ Some svc
       → discover_descriptors w at svc svc.start ≡ characteristics_done w at x
   unfolding characteristics_done
   walked_one x svc e = sym (ap (characteristics_done w at) e)

@@ -1,4 +1,5 @@
 -- What the running step does with a response keeps what holds through a call: it asks again, or it ends, or it goes on.
+use Rattle.std.specs.Prelude.{Option, Some, None}
 use Prim.Native.Nat.{ℕ, ◌+◌, ◌-◌, ◌≤◌}
 use mathlib.Core.Path.{◌≡◌, refl, sym, ap, ◌∙◌}
 use mathlib.Core.Bool.{Bool, true, false, ◌&&◌}
@@ -15,8 +16,6 @@ use Rattle.att_pdu.specs.Numbers.{op_error_rsp, op_read_rsp, op_write_rsp, err_a
 use Rattle.gatt_services.specs.Service as service
 use Rattle.gatt_services.specs.declared.Service.{Service}
 use Rattle.gatt_services.specs.declared.Found as services-found
-use Rattle.gatt_services.specs.declared.Which as service-which
-use Rattle.gatt_services.specs.declared.Which.TheVariants as which-service
 use Rattle.gatt_characteristics.specs.Characteristic.{known, rises, characteristics_taken}
 use Rattle.gatt_characteristics.specs.declared.Found as characteristics-found
 use Rattle.gatt_descriptors.specs.declared.Named.{Named}
@@ -80,29 +79,29 @@ module _ (at : Micros) (l : at.0 ≤ latest) where
 
     -- where one part of the walk is at its end
 
-    goes-into : (s : service-which.Which) → Goes (k + 1) w (walk_into w at s)
+    goes-into : (s : Option Service) → Goes (k + 1) w (walk_into w at s)
     unfolding walk_into
-    goes-into which-service.Nothing = goes_over k w x.ready x.nearly at NotFound
-    goes-into (which-service.At svc) = asks-characteristics svc svc.start
+    goes-into None = goes_over k w x.ready x.nearly at NotFound
+    goes-into (Some svc) = asks-characteristics svc svc.start
 
     goes-services-done : (g : Goal) → Goes (k + 1) w (services_done w at g)
     unfolding services_done
     goes-services-done goal.All = goes_over k w x.ready x.nearly at Ok
     goes-services-done (goal.Of u) = goes-into (service_of w u)
 
-    goes-characteristics-done : (s : service-which.Which) → Goes (k + 1) w (characteristics_done w at s)
+    goes-characteristics-done : (s : Option Service) → Goes (k + 1) w (characteristics_done w at s)
     unfolding characteristics_done
-    goes-characteristics-done which-service.Nothing = goes_over k w x.ready x.nearly at NotFound
-    goes-characteristics-done (which-service.At svc) = asks-descriptors svc svc.start
+    goes-characteristics-done None = goes_over k w x.ready x.nearly at NotFound
+    goes-characteristics-done (Some svc) = asks-descriptors svc svc.start
 
     goes_on_lem : (svc : Service) (from : ℕ) → Goes (k + 1) w (go_on w at svc from)
     unfolding go_on
     goes_on_lem svc from = goes-pick (k + 1) w (leb from svc.end) _ _ (asks-descriptors svc from) (goes_over k w x.ready x.nearly at Ok)
 
-    goes-range-done : (s : service-which.Which) → Goes (k + 1) w (range_done w at s)
+    goes-range-done : (s : Option Service) → Goes (k + 1) w (range_done w at s)
     unfolding range_done
-    goes-range-done which-service.Nothing = goes_over k w x.ready x.nearly at NotFound
-    goes-range-done (which-service.At svc) = goes_on_lem svc (after_range w svc)
+    goes-range-done None = goes_over k w x.ready x.nearly at NotFound
+    goes-range-done (Some svc) = goes_on_lem svc (after_range w svc)
 
   -- entries were heard
 
@@ -141,10 +140,10 @@ module _ (at : Micros) (l : at.0 ≤ latest) where
         (goes_over k v y.ready y.nearly at TableFull)
         (goes-pick (k + 1) v (leb svc.end found.last) _ _ (asks-descriptors k v y svc svc.start) (asks-characteristics k v y svc (found.last + 1))))
 
-    goes-characteristics-heard : (n size : ℕ) (s : service-which.Which) → Goes (k + 1) w (characteristics_heard w at n size s)
+    goes-characteristics-heard : (n size : ℕ) (s : Option Service) → Goes (k + 1) w (characteristics_heard w at n size s)
     unfolding characteristics_heard
-    goes-characteristics-heard n size which-service.Nothing = goes_over k w x.ready x.nearly at NotFound
-    goes-characteristics-heard n size (which-service.At svc) =
+    goes-characteristics-heard n size None = goes_over k w x.ready x.nearly at NotFound
+    goes-characteristics-heard n size (Some svc) =
         let t = w.held.state.characteristics in
         let es = entries_of w n size in
         goes-pick (k + 1) w (ltb size 7) _ _
@@ -159,10 +158,10 @@ module _ (at : Micros) (l : at.0 ≤ latest) where
         let s = stays-characteristics w.held named.table few up x.nearly in
         after (k + 1) w (on_state w.held c) (descriptors_found w at svc named) s (goes_on_lem k (become w c) (walking_on k w c x s refl) svc named.«next»)
 
-    goes-descriptors-heard : (n format : ℕ) (s : service-which.Which) → Goes (k + 1) w (descriptors_heard w at n format s)
+    goes-descriptors-heard : (n format : ℕ) (s : Option Service) → Goes (k + 1) w (descriptors_heard w at n format s)
     unfolding descriptors_heard
-    goes-descriptors-heard n format which-service.Nothing = goes_over k w x.ready x.nearly at NotFound
-    goes-descriptors-heard n format (which-service.At svc) =
+    goes-descriptors-heard n format None = goes_over k w x.ready x.nearly at NotFound
+    goes-descriptors-heard n format (Some svc) =
         let t = w.held.state.characteristics in
         let es = entries_of w n (width_of format) in
         let first = after_range w svc in

@@ -1,4 +1,5 @@
 -- What each return of the walk through services asks, from what its callees ensure.
+use Rattle.std.specs.Prelude.{Option, Some, None}
 use Prim.Native.Nat.{ℕ, ◌+◌, ◌-◌, ◌≤◌, ◌<◌, ◌^◌}
 use mathlib.Core.Path.{◌≡◌, sym, ap, subst, ◌∙◌}
 use mathlib.Core.List.{List}
@@ -25,8 +26,6 @@ use Rattle.link_rules.proofs.AnswerLaws.{entries-are, yes, no}
 use Rattle.link_rules.proofs.AbleLaws.{few}
 use Rattle.gatt_services.specs.Service as service
 use Rattle.gatt_services.specs.declared.Found as services-found
-use Rattle.gatt_services.specs.declared.Which as service-which
-use Rattle.gatt_services.specs.declared.Which.TheVariants as which-service
 use Rattle.link_questions.specs.declared.Goal.TheVariants as goal
 
 pub services-kept : (x y : Services) (z : Characteristics) (es : List (List ℕ)) (f : services-found.Found)
@@ -42,11 +41,11 @@ services-kept x y z es f e g p =
     }
 
 module _ (w : World) (at : Micros) where
-  pub into-none : (x : service-which.Which) → x ≡ which-service.Nothing → over w at NotFound ≡ walk_into w at x
+  pub into-none : (x : Option Service) → x ≡ None → over w at NotFound ≡ walk_into w at x
   unfolding walk_into
   into-none x e = sym (ap (walk_into w at) e)
 
-  pub into_one : (x : service-which.Which) (svc : Service) → x ≡ which-service.At svc
+  pub into_one : (x : Option Service) (svc : Service) → x ≡ Some svc
       → discover_characteristics w at svc svc.start ≡ walk_into w at x
   unfolding walk_into
   into_one x svc e = sym (ap (walk_into w at) e)
@@ -55,7 +54,7 @@ module _ (w : World) (at : Micros) where
   unfolding services_done
   done_all g e = sym (ap (services_done w at) e)
 
-  pub done-of : (g : Goal) (u : Uuid) (x : service-which.Which) → g ≡ goal.Of u → x ≡ service_of w u → walk_into w at x ≡ services_done w at g
+  pub done-of : (g : Goal) (u : Uuid) (x : Option Service) → g ≡ goal.Of u → x ≡ service_of w u → walk_into w at x ≡ services_done w at g
   unfolding services_done
   done-of g u x e f = ap (walk_into w at) f ∙ sym (ap (services_done w at) e)
 

@@ -1,14 +1,11 @@
 -- What a response reads of a world, and what it does to it in one move.
-use Rattle.std.specs.Prelude.{ℕ, ◌+◌, ◌-◌, List}
+use Rattle.std.specs.Prelude.{ℕ, ◌+◌, ◌-◌, List, Option, Some, None}
 use Rattle.uuid_value.specs.declared.Uuid.{Uuid}
 use Rattle.lists.specs.Blocks.{bytes}
 use Rattle.time.specs.declared.Micros.{Micros}
 use Rattle.lists.specs.Cut.{entries}
 use Rattle.gatt_services.specs.Service as service
 use Rattle.gatt_services.specs.declared.Service.{Service}
-use Rattle.gatt_services.specs.declared.Which as service-which
-use Rattle.gatt_descriptors.specs.declared.Range.{Range}
-use Rattle.gatt_descriptors.specs.declared.Range.TheVariants as range
 use Rattle.gatt_descriptors.specs.Range.{descriptor_range}
 use Rattle.state.specs.Central.{Central, with_bearer}
 use Rattle.state.specs.declared.StepStatus.{StepStatus}
@@ -31,7 +28,7 @@ abbrev pub become : World → Central → World
 become w c = on_held w (on_state w.held c)
 
 -- the service of a UUID, if it is known
-abbrev pub service_of : World → Uuid → service-which.Which
+abbrev pub service_of : World → Uuid → Option Service
 service_of w u = service.service_with u (service.known w.held.state.services)
 
 -- the entries of an answer of n bytes: behind its opcode and one byte more (Part F 3.4.3.2, 3.4.4.2, 3.4.4.10)
@@ -39,9 +36,9 @@ abbrev pub entries_of : World → ℕ → ℕ → List (List ℕ)
 entries_of w n size = entries size (bytes w.held.store (payload_at + 2) (n - 2))
 
 -- where the range that was asked for ends
-abbrev pub range_end : ℕ → Range → ℕ
-range_end end range.Nothing = end
-range_end end (range.Is start to) = to
+abbrev pub range_end : ℕ → Option (ℕ × ℕ) → ℕ
+range_end end None = end
+range_end end (Some (start, to)) = to
 
 -- the handle after the range that was asked for, from the cursor on
 abbrev pub after_range : World → Service → ℕ

@@ -1,11 +1,9 @@
 -- The walk of discovery through the services of the peer (Core Vol 3 Part G 4.4.1).
-use Rattle.std.specs.Prelude.{ℕ, ◌+◌, eqb, ltb}
+use Rattle.std.specs.Prelude.{ℕ, ◌+◌, eqb, ltb, Option, Some, None}
 use Rattle.bytes_base.specs.Choice.{pick}
 use Rattle.time.specs.declared.Micros.{Micros}
 use Rattle.gatt_services.specs.Service as service
 use Rattle.gatt_services.specs.declared.Found as services-found
-use Rattle.gatt_services.specs.declared.Which as service-which
-use Rattle.gatt_services.specs.declared.Which.TheVariants as which-service
 use Rattle.state.specs.Central.{with_services}
 use Rattle.state.specs.declared.StepStatus.TheVariants.{Ok, NotFound, TableFull}
 use Rattle.script_rules.specs.World.{World}
@@ -13,11 +11,12 @@ use Rattle.script_rules.specs.Discovery.{last_handle, discover_services, discove
 use Rattle.link_rules.specs.Moves.{over, become, service_of, entries_of}
 use Rattle.link_questions.specs.declared.Goal.{Goal}
 use Rattle.link_questions.specs.declared.Goal.TheVariants as goal
+use Rattle.gatt_services.specs.declared.Service.{Service}
 
 -- the characteristics of a service are next
-unfoldable pub walk_into : World → Micros → service-which.Which → World
-walk_into w at which-service.Nothing = over w at NotFound
-walk_into w at (which-service.At svc) = discover_characteristics w at svc svc.start
+unfoldable pub walk_into : World → Micros → Option Service → World
+walk_into w at None = over w at NotFound
+walk_into w at (Some svc) = discover_characteristics w at svc svc.start
 
 -- all services are known
 unfoldable pub services_done : World → Micros → Goal → World

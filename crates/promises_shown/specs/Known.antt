@@ -1,10 +1,9 @@
 -- What is known once the battery level is discovered, written out: three lists of calls go on from here.
-use Rattle.std.specs.Prelude.{ℕ, ◌-◌, ◌≡◌, refl, true, false, List, [], ◌∷◌, ◌++◌, replicate}
+use Rattle.std.specs.Prelude.{ℕ, ◌-◌, ◌≡◌, refl, true, false, List, [], ◌∷◌, ◌++◌, replicate, None}
 use Rattle.std.proofs.Common.{ap, ◌∙◌}
 use Rattle.state_places.specs.Sizes.{store_size, held_at}
 use Rattle.gatt_services.specs.Service.{zero-service}
 use Rattle.gatt_characteristics.specs.Characteristic.{zero-characteristic}
-use Rattle.gatt_characteristics.specs.declared.Cccd.TheVariants.{Unknown}
 use Rattle.state.specs.Central.{Central}
 use Rattle.state.specs.Fresh.{no_options, fresh_central, no_queued, no_result}
 use Rattle.state.specs.declared.Options.{Options}
@@ -38,7 +37,7 @@ knowing options =
       bearer = record { held = 0; link = record { handle = 64; mtu = 23; pending = 0; terminating = false }; present = true; closed = false };
       services = record { kept = record { start = 0xFFFD; end = 0xFFFF; uuid = battery } ∷ replicate 31 zero-service; count = 1 };
       characteristics = record {
-        kept = record { declaration = 0xFFFE; value_handle = 0xFFFF; uuid = level; properties = 0x02; cccd = Unknown } ∷ replicate 63 zero-characteristic;
+        kept = record { declaration = 0xFFFE; value_handle = 0xFFFF; uuid = level; properties = 0x02; cccd = None } ∷ replicate 63 zero-characteristic;
         count = 1;
       };
       notifications = fresh_central.notifications;

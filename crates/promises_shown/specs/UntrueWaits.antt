@@ -1,5 +1,5 @@
 -- Each edit of what thm_waits promises, tried under must-fail, makes a promise false, as in Untrue.antt.
-use Rattle.std.specs.Prelude.{ℕ, zero, suc, ◌+◌, ◌-◌, ◌*◌, ◌<◌, max, ◌≡◌, refl, Bool, true, false, ◌&&◌, ◌||◌, List, [], ◌∷◌, ◌++◌, length, take, drop, get_or, eqb, leb}
+use Rattle.std.specs.Prelude.{ℕ, zero, suc, ◌+◌, ◌-◌, ◌*◌, ◌<◌, max, ◌≡◌, refl, Bool, true, false, ◌&&◌, ◌||◌, List, [], ◌∷◌, ◌++◌, length, take, drop, get_or, eqb, leb, Option, Some, None}
 use Rattle.std.proofs.Common.{sym, ap, ap₂, ◌∙◌, subst, arith, take_all, eq-eqb}
 use Rattle.std.proofs.lemmas.Bool.{false≢true}
 use Rattle.bytes_base.specs.Choice.{pick}
@@ -12,10 +12,7 @@ use Rattle.time.specs.declared.Millis.{Millis}
 use Rattle.uuid_value.specs.declared.Uuid.{Uuid}
 use Rattle.att_pdu.specs.Numbers.{op_handle_value_ind}
 use Rattle.gatt_characteristics.specs.Characteristic.{known, characteristic_with}
-use Rattle.gatt_characteristics.specs.declared.Cccd.TheVariants.{Unknown}
 use Rattle.gatt_characteristics.specs.declared.Characteristic.{Characteristic}
-use Rattle.gatt_characteristics.specs.declared.Which.{Which}
-use Rattle.gatt_characteristics.specs.declared.Which.TheVariants.{At}
 use Rattle.notifications.specs.declared.Notification.{Notification}
 use Rattle.notifications.specs.declared.Age.TheVariants.{Within}
 use Rattle.notifications.specs.Wait.{starts, contains}
@@ -54,7 +51,7 @@ pub record Passed (r : Rules) (h : Held) (c : Call) (b : Brought) (from : ℕ) (
   pub present : Present b.air
   pub moment : ℕ
   pub characteristic : Characteristic
-  pub known-then : characteristic_with u (known (final (begins h c) (take moment (goes h c))).held.state.characteristics) ≡ At characteristic
+  pub known-then : characteristic_with u (known (final (begins h c) (take moment (goes h c))).held.state.characteristics) ≡ Some characteristic
   pub before : List Numbered
   pub newest : Numbered
   pub some :
@@ -193,20 +190,20 @@ abbrev telling : Call
 telling = shown.tells 7 (0x64 ∷ [])
 
 abbrev here : Characteristic
-here = record { declaration = 0xFFFE; value_handle = 0xFFFF; uuid = level; properties = 0x02; cccd = Unknown }
+here = record { declaration = 0xFFFE; value_handle = 0xFFFF; uuid = level; properties = 0x02; cccd = None }
 
-abbrev seen : List Pass → Which
+abbrev seen : List Pass → Option Characteristic
 seen ps = characteristic_with level (known (final (begins waiting telling) ps).held.state.characteristics)
 
 three-hops : length (goes waiting telling) ≡ 3
 unfolding opened knowing known_store
 three-hops = refl
 
-at-end : seen (goes waiting telling) ≡ At here
+at-end : seen (goes waiting telling) ≡ Some here
 unfolding opened knowing known_store
 at-end = refl
 
-known_through : (k : ℕ) → seen (take k (goes waiting telling)) ≡ At here
+known_through : (k : ℕ) → seen (take k (goes waiting telling)) ≡ Some here
 unfolding opened knowing known_store
 known_through zero = refl
 known_through (suc zero) = refl
@@ -220,7 +217,7 @@ handle-of-the-declaration p =
   where
     none : Passed by_declaration waiting telling (shown.after (one 7 ∷ [])) 0 level (ms 2) [] (shown.passed_at 7 1) → ⊥
     none y =
-        let e : At here ≡ At y.characteristic = sym (known_through y.moment) ∙ y.known-then in
+        let e : Some here ≡ Some y.characteristic = sym (known_through y.moment) ∙ y.known-then in
         let i : here ≡ y.characteristic = cc in
         not_none y.before y.newest
         (ap (λ (x : Characteristic). pick (waits.counts (record { handle = x.declaration; link = 1; now = at 7; age = ms 2 }) (one 7).entry)

@@ -1,4 +1,5 @@
 -- What each return asks, from what the callees ensure.
+use Rattle.std.specs.Prelude.{Option, Some, None}
 use Prim.Native.Nat.{ℕ, ◌≤◌}
 use mathlib.Core.Path.{◌≡◌, sym, ap, subst, ◌∙◌}
 use mathlib.Core.List.{List, []}
@@ -7,8 +8,6 @@ use Rattle.state_places.specs.Sizes.{held_at}
 use Rattle.time.specs.declared.Micros.{Micros}
 use Rattle.att_pdu.specs.Pdu.{read_by_group_type_req, find_information_req}
 use Rattle.gatt_services.specs.declared.Service.{Service}
-use Rattle.gatt_descriptors.specs.declared.Range.{Range}
-use Rattle.gatt_descriptors.specs.declared.Range.TheVariants.{Nothing, Is}
 use Rattle.gatt_descriptors.specs.Range.{descriptor_range}
 use Rattle.state.specs.declared.Sent.{Sent}
 use Rattle.state.specs.declared.StepStatus.TheVariants.{Ok}
@@ -41,20 +40,20 @@ pub services-asked : (t r : Turn) (out out' : List ℕ) (at : Micros) (from : �
 unfolding discover_services
 services-asked t r out out' at from e w s = e w s
 
-module _ (t : Turn) (w st out : List ℕ) (at : Micros) (svc : Service) (from : ℕ) (g : Range)
+module _ (t : Turn) (w st out : List ℕ) (at : Micros) (svc : Service) (from : ℕ) (g : Option (ℕ × ℕ))
     (f : g ≡ descriptor_range (in_table w t.core.counts.characteristics) svc.start svc.end from) where
-  by-range : (k : Range) → g ≡ k → ask_range (world t w st out) at k ≡ discover_descriptors (world t w st out) at svc from
+  by-range : (k : Option (ℕ × ℕ)) → g ≡ k → ask_range (world t w st out) at k ≡ discover_descriptors (world t w st out) at svc from
   unfolding discover_descriptors
   by-range k h = ap (ask_range (world t w st out) at) (sym h ∙ f)
 
-  pub none_left : (r : Turn) (w' st' : List ℕ) → g ≡ Nothing
+  pub none_left : (r : Turn) (w' st' : List ℕ) → g ≡ None
       → ((o : List ℕ) → world r w' st' o ≡ on_held (world t w st o) (finish (held t.core w st) at Ok held_at 0 0))
       → world r w' st' out ≡ discover_descriptors (world t w st out) at svc from
   unfolding ask_range
-  none_left r w' st' h p = p out ∙ by-range Nothing h
+  none_left r w' st' h p = p out ∙ by-range None h
 
-  pub some_left : (r : Turn) (out' : List ℕ) (a b : ℕ) → g ≡ Is a b
+  pub some_left : (r : Turn) (out' : List ℕ) (a b : ℕ) → g ≡ Some (a, b)
       → ((w s : List ℕ) → world r w s out' ≡ request (asking (world t w s out) 2 a) at (find_information_req a b))
       → world r w st out' ≡ discover_descriptors (world t w st out) at svc from
   unfolding ask_range
-  some_left r out' a b h p = p w st ∙ by-range (Is a b) h
+  some_left r out' a b h p = p w st ∙ by-range (Some (a, b)) h

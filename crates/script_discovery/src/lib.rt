@@ -8,7 +8,6 @@ ghost use Rattle.script_rules.specs.Ready.{Ready};
 ghost use Rattle.script_rules.specs.Discovery.{asking, discover_services, discover_descriptors, discover_characteristics};
 ghost use Rattle.state_core.specs.Reading.{world};
 
-use gatt_descriptors::Range;
 use gatt_services::Service;
 use state::StepStatus;
 use state_core::Turn;
@@ -66,8 +65,8 @@ pub fn discover_descriptors(
     let counts = core.counts;
     let count = counts.characteristics;
     match words_characteristic::descriptor_range(tables, count, svc.start, svc.end, from) {
-        Range::Nothing => script_turns::end_turn(t, tables, store, at, StepStatus::Ok),
-        Range::Is(start, end) => {
+        None => script_turns::end_turn(t, tables, store, at, StepStatus::Ok),
+        Some((start, end)) => {
             let pdu = att_requests::find_information_req(start, end);
             let u = ask_from(t, DESCRIPTORS, start);
             script_turns::request(u, out, at, &pdu)

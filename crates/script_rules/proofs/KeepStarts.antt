@@ -1,4 +1,5 @@
 -- What a step that begins keeps, whichever it is: it sends one frame at most.
+use Rattle.std.specs.Prelude.{Option, Some, None}
 use Prim.Native.Nat.{ℕ, ◌+◌, ◌-◌, ◌≤◌, max}
 use mathlib.Core.Path.{◌≡◌, refl, sym, ap, ◌∙◌}
 use mathlib.Core.Bool.{Bool, true, false, ◌&&◌, ◌||◌}
@@ -24,15 +25,7 @@ use Rattle.notifications.specs.declared.Age.{Age}
 use Rattle.notifications.specs.declared.Wanted.{Wanted}
 use Rattle.gatt_services.specs.declared.Service.{Service}
 use Rattle.gatt_services.specs.Service as service
-use Rattle.gatt_services.specs.declared.Which as service-which
-use Rattle.gatt_services.specs.declared.Which.TheVariants as service-variants
 use Rattle.gatt_characteristics.specs.Characteristic.{up_from, known, characteristic_with}
-use Rattle.gatt_characteristics.specs.declared.Cccd.{Cccd}
-use Rattle.gatt_characteristics.specs.declared.Cccd.TheVariants as cccd
-use Rattle.gatt_characteristics.specs.declared.Which.{Which}
-use Rattle.gatt_characteristics.specs.declared.Which.TheVariants.{At, Nothing}
-use Rattle.gatt_descriptors.specs.declared.Range as range
-use Rattle.gatt_descriptors.specs.declared.Range.TheVariants as range-variants
 use Rattle.gatt_descriptors.specs.Range.{descriptor_range}
 use Rattle.state.specs.Central.{Central, with_running, with_counters, with_bearer}
 use Rattle.state.specs.declared.Step.{Step}
@@ -55,6 +48,7 @@ use Rattle.script_rules.specs.Start.{ends, waits_for, start_alone, start_unlinke
 use Rattle.script_rules.specs.Nearly.{Nearly}
 use Rattle.script_rules.specs.Timed.{milliseconds, narrow, Timed}
 use Rattle.script_rules.proofs.KeepTurns.{Stays, Goes, stays, then, quietly, stays-finish, stays-wait, goes-request}
+use Rattle.gatt_characteristics.specs.declared.Characteristic.{Characteristic}
 
 -- ---- parts of the state that a step changes as it begins
 
@@ -149,10 +143,10 @@ module _ (h : Held) (at : Micros) (f : Nearly h.state) where
       let s = stays-passed h f in
       then h behind (passing h at w) s (stays-finish behind at Ok held_at 0 (passed_on h.state w w.age) (omega arith) s.nearly)
 
-  stays-check-one : (age : Age) (x : Which) → Stays h (check_one h at age x)
+  stays-check-one : (age : Age) (x : Option Characteristic) → Stays h (check_one h at age x)
   unfolding check_one
-  stays-check-one age Nothing = stays-ends h at NotFound f
-  stays-check-one age (At x) = let w = wanted h.state at x.value_handle age in go w (wait_passes h w)
+  stays-check-one age None = stays-ends h at NotFound f
+  stays-check-one age (Some x) = let w = wanted h.state at x.value_handle age in go w (wait_passes h w)
     where
       go : (w : Wanted) (b : Bool) → Stays h (pick b (passing h at w) h)
       go w true = stays-passing w
@@ -254,10 +248,10 @@ module _ (k : ℕ) (w : World) (at : Micros) (few : k ≤ 64) (l : at.0 ≤ late
     unfolding discover_services
     goes-services from = goes-walks 0 from (read_by_group_type_req from last_handle primary_service) (omega arith) refl (omega (arith, length-read_by_group_type_req from last_handle primary_service))
 
-    goes-range : (r : range.Range) → Goes (k + 1) w (ask_range w at r)
+    goes-range : (r : Option (ℕ × ℕ)) → Goes (k + 1) w (ask_range w at r)
     unfolding ask_range
-    goes-range range-variants.Nothing = goes-ends Ok
-    goes-range (range-variants.Is start end) = goes-walks 2 start (find_information_req start end) (omega arith) refl (omega (arith, length-find_information_req start end))
+    goes-range None = goes-ends Ok
+    goes-range (Some (start, end)) = goes-walks 2 start (find_information_req start end) (omega arith) refl (omega (arith, length-find_information_req start end))
 
     pub goes-descriptors : (svc : Service) (from : ℕ) → Goes (k + 1) w (discover_descriptors w at svc from)
     unfolding discover_descriptors
@@ -271,29 +265,29 @@ module _ (k : ℕ) (w : World) (at : Micros) (few : k ≤ 64) (l : at.0 ≤ late
         go true = goes-descriptors svc svc.start
         go false = goes-walks 1 from (read_by_type_req from svc.end characteristic_type) (omega arith) refl (omega (arith, length-read_by_type_req from svc.end characteristic_type))
 
-    goes_in : (x : service-which.Which) → Goes (k + 1) w (discover_in w at x)
+    goes_in : (x : Option Service) → Goes (k + 1) w (discover_in w at x)
     unfolding discover_in
-    goes_in (service-variants.At svc) = goes-characteristics svc svc.start
-    goes_in service-variants.Nothing = goes-services 1
+    goes_in (Some svc) = goes-characteristics svc svc.start
+    goes_in None = goes-services 1
 
-    goes-subscribe-at : (indicate : Bool) (x : Cccd) → Goes (k + 1) w (subscribe_at w at indicate x)
+    goes-subscribe-at : (indicate : Bool) (x : Option ℕ) → Goes (k + 1) w (subscribe_at w at indicate x)
     unfolding subscribe_at
-    goes-subscribe-at indicate cccd.Unknown = goes-ends NotFound
-    goes-subscribe-at indicate (cccd.At handle) = goes-asks (write_req handle (configuration indicate)) refl (configured handle indicate)
+    goes-subscribe-at indicate None = goes-ends NotFound
+    goes-subscribe-at indicate (Some handle) = goes-asks (write_req handle (configuration indicate)) refl (configured handle indicate)
       where
         configured : (handle : ℕ) (b : Bool) → length (write_req handle (configuration b)) ≤ 247
         configured handle true = omega (arith, length-append (le_bytes 2 handle) (2 ∷ 0 ∷ []), length-le_bytes 2 handle)
         configured handle false = omega (arith, length-append (le_bytes 2 handle) (1 ∷ 0 ∷ []), length-le_bytes 2 handle)
 
-    goes-subscribe : (indicate : Bool) (x : Which) → Goes (k + 1) w (subscribe w at indicate x)
+    goes-subscribe : (indicate : Bool) (x : Option Characteristic) → Goes (k + 1) w (subscribe w at indicate x)
     unfolding subscribe
-    goes-subscribe indicate Nothing = goes-ends NotFound
-    goes-subscribe indicate (At x) = goes-subscribe-at indicate x.cccd
+    goes-subscribe indicate None = goes-ends NotFound
+    goes-subscribe indicate (Some x) = goes-subscribe-at indicate x.cccd
 
-    goes-read : (x : Which) → Goes (k + 1) w (read w at x)
+    goes-read : (x : Option Characteristic) → Goes (k + 1) w (read w at x)
     unfolding read
-    goes-read Nothing = goes-ends NotFound
-    goes-read (At x) = goes-asks (read_req x.value_handle) refl (omega (arith, length-read_req x.value_handle))
+    goes-read None = goes-ends NotFound
+    goes-read (Some x) = goes-asks (read_req x.value_handle) refl (omega (arith, length-read_req x.value_handle))
 
     module _ (short : w.held.state.running.len ≤ value_size) where
       goes-command : (handle : ℕ) → Goes (k + 1) w (commanded w at handle w.held.state.running.len)
@@ -305,10 +299,10 @@ module _ (k : ℕ) (w : World) (at : Micros) (few : k ≤ 64) (l : at.0 ≤ late
             stays = stays-ends w.held at Ok f;
           }
 
-      goes-write : (response : Bool) (x : Which) → Goes (k + 1) w (write w at response x)
+      goes-write : (response : Bool) (x : Option Characteristic) → Goes (k + 1) w (write w at response x)
       unfolding write
-      goes-write response Nothing = goes-ends NotFound
-      goes-write response (At x) = go (ltb w.held.state.bearer.link.mtu (w.held.state.running.len + 3)) response
+      goes-write response None = goes-ends NotFound
+      goes-write response (Some x) = go (ltb w.held.state.bearer.link.mtu (w.held.state.running.len + 3)) response
         where
           go : (b c : Bool)
               → Goes (k + 1) w

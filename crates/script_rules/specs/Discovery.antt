@@ -1,13 +1,11 @@
 -- Discovery's requests (Core Vol 3 Part G 4.4.1, 4.6.1, 4.7.1): services, then characteristics, then descriptors, each asked for from a handle on.
-use Rattle.std.specs.Prelude.{ℕ, ◌||◌, eqb, ltb}
+use Rattle.std.specs.Prelude.{ℕ, ◌||◌, eqb, ltb, Option, Some, None}
 use Rattle.bytes_base.specs.Choice.{pick}
 use Rattle.state_places.specs.Sizes.{held_at}
 use Rattle.time.specs.declared.Micros.{Micros}
 use Rattle.att_pdu.specs.Pdu.{read_by_group_type_req, read_by_type_req, find_information_req}
 pub use Rattle.gatt_services.specs.Service.{last_handle}
 use Rattle.gatt_services.specs.declared.Service.{Service}
-use Rattle.gatt_descriptors.specs.declared.Range.{Range}
-use Rattle.gatt_descriptors.specs.declared.Range.TheVariants.{Nothing, Is}
 use Rattle.gatt_descriptors.specs.Range.{descriptor_range}
 use Rattle.state.specs.Central.{with_running}
 use Rattle.state.specs.declared.Running.{Running}
@@ -34,9 +32,9 @@ unfoldable pub discover_services : World → Micros → ℕ → World
 discover_services w at from = request (asking w 0 from) at (read_by_group_type_req from last_handle primary_service)
 
 -- where no range is left, the step is done
-unfoldable pub ask_range : World → Micros → Range → World
-ask_range w at Nothing = on_held w (finish w.held at Ok held_at 0 0)
-ask_range w at (Is start end) = request (asking w 2 start) at (find_information_req start end)
+unfoldable pub ask_range : World → Micros → Option (ℕ × ℕ) → World
+ask_range w at None = on_held w (finish w.held at Ok held_at 0 0)
+ask_range w at (Some (start, end)) = request (asking w 2 start) at (find_information_req start end)
 
 unfoldable pub discover_descriptors : World → Micros → Service → ℕ → World
 discover_descriptors w at svc from = ask_range w at (descriptor_range w.held.state.characteristics svc.start svc.end from)

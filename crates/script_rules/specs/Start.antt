@@ -1,5 +1,5 @@
 -- What each step does when it begins (the Rust's `start`; 01, 'Rules of the link').
-use Rattle.std.specs.Prelude.{ℕ, ◌+◌, max, Bool, true, false, ◌&&◌, List, [], ◌∷◌, ltb}
+use Rattle.std.specs.Prelude.{ℕ, ◌+◌, max, Bool, true, false, ◌&&◌, List, [], ◌∷◌, ltb, Option, Some, None}
 use Rattle.bytes_base.specs.Choice.{pick}
 use Rattle.state_places.specs.Sizes.{running_at, held_at}
 use Rattle.time.specs.declared.Micros.{Micros}
@@ -11,13 +11,7 @@ use Rattle.att_pdu.specs.Numbers.{op_write_req, op_write_cmd}
 use Rattle.att_pdu.specs.Pdu.{exchange_mtu_req, read_req, write_req}
 use Rattle.uuid_value.specs.declared.Uuid.{Uuid}
 use Rattle.gatt_services.specs.Service as service
-use Rattle.gatt_services.specs.declared.Which as service-which
-use Rattle.gatt_services.specs.declared.Which.TheVariants as service-variants
 use Rattle.gatt_characteristics.specs.Characteristic as characteristic
-use Rattle.gatt_characteristics.specs.declared.Cccd.{Cccd}
-use Rattle.gatt_characteristics.specs.declared.Cccd.TheVariants as cccd
-use Rattle.gatt_characteristics.specs.declared.Which.{Which}
-use Rattle.gatt_characteristics.specs.declared.Which.TheVariants.{At, Nothing}
 use Rattle.state.specs.Central.{Central, with_running, with_bearer, with_services, with_characteristics}
 use Rattle.state.specs.declared.LinkRequest.TheVariants.{Terminate}
 use Rattle.state.specs.declared.Bearer.{Bearer}
@@ -35,6 +29,8 @@ use Rattle.script_rules.specs.Discovery.{discover_services, discover_characteris
 use Rattle.script_rules.specs.declared.Alone.{Alone}
 use Rattle.script_rules.specs.declared.Alone.TheVariants as alone
 use Rattle.script_rules.specs.Wait.{check_wait}
+use Rattle.gatt_characteristics.specs.declared.Characteristic.{Characteristic}
+use Rattle.gatt_services.specs.declared.Service.{Service}
 
 -- the step ends at once, with no value
 abbrev pub ends : Held → Micros → StepStatus → Held
@@ -77,9 +73,9 @@ abbrev pub forgotten : Central → Central
 forgotten c = with_characteristics (with_services c (service.cleared c.services)) (characteristic.cleared c.characteristics)
 
 -- the characteristics of a service that is known, or else the services first
-unfoldable pub discover_in : World → Micros → service-which.Which → World
-discover_in w at (service-variants.At svc) = discover_characteristics w at svc svc.start
-discover_in w at service-variants.Nothing = discover_services w at 1
+unfoldable pub discover_in : World → Micros → Option Service → World
+discover_in w at (Some svc) = discover_characteristics w at svc svc.start
+discover_in w at None = discover_services w at 1
 
 -- the value of the client characteristic configuration, Core Vol 3 Part G 3.3.3.3: 1 notifications, 2 indications
 abbrev pub configuration : Bool → List ℕ
@@ -87,13 +83,13 @@ configuration true = 0x02 ∷ 0x00 ∷ []
 configuration false = 0x01 ∷ 0x00 ∷ []
 
 -- by where the descriptor stands
-unfoldable pub subscribe_at : World → Micros → Bool → Cccd → World
-subscribe_at w at indicate cccd.Unknown = on_held w (ends w.held at NotFound)
-subscribe_at w at indicate (cccd.At handle) = request w at (write_req handle (configuration indicate))
+unfoldable pub subscribe_at : World → Micros → Bool → Option ℕ → World
+subscribe_at w at indicate None = on_held w (ends w.held at NotFound)
+subscribe_at w at indicate (Some handle) = request w at (write_req handle (configuration indicate))
 
-unfoldable pub subscribe : World → Micros → Bool → Which → World
-subscribe w at indicate Nothing = on_held w (ends w.held at NotFound)
-subscribe w at indicate (At x) = subscribe_at w at indicate x.cccd
+unfoldable pub subscribe : World → Micros → Bool → Option Characteristic → World
+subscribe w at indicate None = on_held w (ends w.held at NotFound)
+subscribe w at indicate (Some x) = subscribe_at w at indicate x.cccd
 
 -- n bytes of the running step's value go out as a command, and that is all
 abbrev pub commanded : World → Micros → ℕ → ℕ → World
@@ -101,18 +97,18 @@ commanded w at handle n =
     record { held = ends w.held at Ok; told = send w.told cid_att (att_pdu op_write_cmd handle w.held.store running_at n) }
 
 -- a value and its 3 bytes in front are within the MTU, or too long
-unfoldable pub write : World → Micros → Bool → Which → World
-write w at response Nothing = on_held w (ends w.held at NotFound)
-write w at response (At x) =
+unfoldable pub write : World → Micros → Bool → Option Characteristic → World
+write w at response None = on_held w (ends w.held at NotFound)
+write w at response (Some x) =
     pick (ltb w.held.state.bearer.link.mtu (w.held.state.running.len + 3))
     (on_held w (ends w.held at TooLong))
     (pick response
     (request w at (att_pdu op_write_req x.value_handle w.held.store running_at w.held.state.running.len))
     (commanded w at x.value_handle w.held.state.running.len))
 
-unfoldable pub read : World → Micros → Which → World
-read w at Nothing = on_held w (ends w.held at NotFound)
-read w at (At x) = request w at (read_req x.value_handle)
+unfoldable pub read : World → Micros → Option Characteristic → World
+read w at None = on_held w (ends w.held at NotFound)
+read w at (Some x) = request w at (read_req x.value_handle)
 
 -- Remote User Terminated Connection, Core Vol 1 Part F 1.3
 abbrev pub remote_user_terminated : ℕ
@@ -129,7 +125,7 @@ disconnect w =
     w
     (record { held = on_state w.held (with_bearer c (with_link c.bearer (terminated c.bearer.link))); told = asks_to w.told })
 
-abbrev pub named : World → Uuid → Which
+abbrev pub named : World → Uuid → Option Characteristic
 named w u = characteristic.characteristic_with u (characteristic.known w.held.state.characteristics)
 
 unfoldable pub start_linked : World → Micros → Step → World

@@ -1,5 +1,5 @@
 -- The wait check (01, 'Rules of the link'; 02, One): what a WaitNotification step looks at, when it starts and at each notification.
-use Rattle.std.specs.Prelude.{ℕ, ◌+◌, ◌-◌, ◌≤◌, ◌≡◌, Bool, true, drop}
+use Rattle.std.specs.Prelude.{ℕ, ◌+◌, ◌-◌, ◌≤◌, ◌≡◌, Bool, true, drop, Option, Some, None}
 use Rattle.bytes_base.specs.Choice.{pick}
 use Rattle.lists.specs.Blocks.{bytes}
 use Rattle.state_places.specs.Sizes.{running_at, held_at, most_results, most_characteristics, most_notifications}
@@ -10,8 +10,6 @@ use Rattle.notifications.specs.declared.Wanted.{Wanted}
 use Rattle.notifications.specs.declared.Age.{Age}
 use Rattle.notifications.specs.declared.Age.TheVariants.{Any, Within}
 use Rattle.gatt_characteristics.specs.Characteristic.{known, characteristic_with}
-use Rattle.gatt_characteristics.specs.declared.Which.{Which}
-use Rattle.gatt_characteristics.specs.declared.Which.TheVariants.{At, Nothing}
 use Rattle.state.specs.Central.{Central, with_counters}
 use Rattle.state.specs.declared.Counters.{Counters}
 use Rattle.state.specs.declared.Step.{Step}
@@ -22,6 +20,7 @@ use Rattle.script_rules.specs.World.{Held, on_state}
 use Rattle.script_rules.specs.declared.Awaited.{Awaited}
 use Rattle.script_rules.specs.declared.Awaited.TheVariants as awaited-variants
 use Rattle.script_rules.specs.Finish.{finish}
+use Rattle.gatt_characteristics.specs.declared.Characteristic.{Characteristic}
 
 -- what the check goes by: of a fit state's facts, those of results, characteristics and notifications
 pub record Looks (c : Central) : Type 0 where
@@ -63,9 +62,9 @@ passing h at w =
     finish (on_state h (with_counters h.state (passed h.state.counters))) at Ok held_at 0 (passed_on h.state w w.age)
 
 -- by the characteristic that the step names
-unfoldable pub check_one : Held → Micros → Age → Which → Held
-check_one h at age Nothing = finish h at NotFound held_at 0 0
-check_one h at age (At x) =
+unfoldable pub check_one : Held → Micros → Age → Option Characteristic → Held
+check_one h at age None = finish h at NotFound held_at 0 0
+check_one h at age (Some x) =
     let w = wanted h.state at x.value_handle age in
     pick (wait_passes h w) (passing h at w) h
 

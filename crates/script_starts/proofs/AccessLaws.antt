@@ -1,4 +1,5 @@
 -- What each return of the steps that exchange an MTU or ask for a characteristic asks, from what their callees ensure.
+use Rattle.std.specs.Prelude.{Some}
 use Prim.Native.Nat.{ℕ, ◌+◌, ◌≤◌, ◌<◌, max}
 use mathlib.Core.Path.{◌≡◌, ap, ap₂, ◌∙◌}
 use mathlib.Core.Bool.{Bool, true, false}
@@ -11,7 +12,6 @@ use Rattle.l2cap.specs.Frame.{att_pdu}
 use Rattle.att_pdu.specs.Numbers.{op_write_req, op_write_cmd}
 use Rattle.att_pdu.specs.Pdu.{exchange_mtu_req}
 use Rattle.gatt_characteristics.specs.declared.Characteristic.{Characteristic}
-use Rattle.gatt_characteristics.specs.declared.Which.TheVariants.{At}
 use Rattle.state.specs.declared.Sent.{Sent}
 use Rattle.state.specs.declared.StepStatus.TheVariants.{Ok, TooLong}
 use Rattle.state_rules.specs.Steps.{default_mtu}
@@ -48,14 +48,14 @@ module _ (w : World) (at : Micros) (resp : Bool) (x : Characteristic) where
   abbrev len : ℕ
   len = w.held.state.running.len
 
-  pub write-long : mtu < len + 3 → on_held w (ends w.held at TooLong) ≡ write w at resp (At x)
+  pub write-long : mtu < len + 3 → on_held w (ends w.held at TooLong) ≡ write w at resp (Some x)
   unfolding write
   write-long h = rw (lt-ltb mtu (len + 3) h)
 
-  pub write-asks : len + 3 ≤ mtu → resp ≡ true → request w at (att_pdu op_write_req x.value_handle w.held.store running_at len) ≡ write w at resp (At x)
+  pub write-asks : len + 3 ≤ mtu → resp ≡ true → request w at (att_pdu op_write_req x.value_handle w.held.store running_at len) ≡ write w at resp (Some x)
   unfolding write
   write-asks h g = rw (le-ltb mtu (len + 3) h, g)
 
-  pub write-tells : len + 3 ≤ mtu → resp ≡ false → commanded w at x.value_handle len ≡ write w at resp (At x)
+  pub write-tells : len + 3 ≤ mtu → resp ≡ false → commanded w at x.value_handle len ≡ write w at resp (Some x)
   unfolding write
   write-tells h g = rw (le-ltb mtu (len + 3) h, g)

@@ -1,4 +1,5 @@
 -- What each return of the functions that begin a step asks, from what their callees ensure.
+use Rattle.std.specs.Prelude.{Option, Some, None}
 use Prim.Native.Nat.{ℕ, ◌≤◌}
 use mathlib.Core.Path.{◌≡◌, sym, ap, subst, ◌∙◌}
 use mathlib.Core.Bool.{Bool, true, false}
@@ -11,8 +12,6 @@ use Rattle.state_places.specs.Sizes.{value_size}
 use Rattle.time.specs.declared.Micros.{Micros}
 use Rattle.time.specs.declared.Millis.{Millis}
 use Rattle.gatt_services.specs.declared.Service.{Service}
-use Rattle.gatt_services.specs.declared.Which.{Which}
-use Rattle.gatt_services.specs.declared.Which.TheVariants.{At, Nothing}
 use Rattle.state.specs.Central.{Central}
 use Rattle.state.specs.declared.Bearer.{Bearer}
 use Rattle.state.specs.declared.StepStatus.TheVariants.{Ok, NotConnected, BearerClosed}
@@ -51,12 +50,12 @@ module _ (c : Core) (w st : List ℕ) (at : Micros) (a : Alone) (f : a ≡ unlin
 
 -- ---- with a link
 
-module _ (w : World) (at : Micros) (x : Which) where
-  pub service-known : (svc : Service) → x ≡ At svc → discover_characteristics w at svc svc.start ≡ discover_in w at x
+module _ (w : World) (at : Micros) (x : Option Service) where
+  pub service-known : (svc : Service) → x ≡ Some svc → discover_characteristics w at svc svc.start ≡ discover_in w at x
   unfolding discover_in
   service-known svc e = sym (ap (discover_in w at) e)
 
-  pub service-unknown : x ≡ Nothing → discover_services w at 1 ≡ discover_in w at x
+  pub service-unknown : x ≡ None → discover_services w at 1 ≡ discover_in w at x
   unfolding discover_in
   service-unknown e = sym (ap (discover_in w at) e)
 

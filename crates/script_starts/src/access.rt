@@ -1,12 +1,11 @@
 // An MTU is exchanged; a characteristic is subscribed to, written or read.
-ghost use Rattle.std.specs.Prelude.{◌≡◌, List, ℕ, ◌+◌, ◌≤◌, max, length, take};
+ghost use Rattle.std.specs.Prelude.{◌≡◌, List, ℕ, ◌+◌, ◌≤◌, max, length, take, Some};
 ghost use Rattle.state_places.specs.Sizes.{value_size, running_at};
 ghost use Rattle.l2cap.specs.Frame.{att_pdu};
 ghost use Rattle.att_pdu.specs.Numbers.{op_write_req};
 ghost use Rattle.state_rules.specs.Facts.{Fit};
 ghost use Rattle.state_rules.specs.Steps.{default_mtu};
 ghost use Rattle.att_pdu.specs.Pdu.{exchange_mtu_req, write_req};
-ghost use Rattle.gatt_characteristics.specs.declared.Which.TheVariants.{At};
 ghost use Rattle.gatt_characteristics.specs.Characteristic.{characteristic_with};
 ghost use Rattle.script_rules.specs.Ready.{Ready};
 ghost use Rattle.script_rules.specs.Send.{Room, request};
@@ -14,7 +13,7 @@ ghost use Rattle.script_rules.specs.Start.{configuration, subscribe_at, subscrib
 ghost use Rattle.words.specs.Tables.{characteristics_in};
 ghost use Rattle.state_core.specs.Reading.{central, world};
 
-use gatt_characteristics::{Cccd, Characteristic, Which};
+use gatt_characteristics::Characteristic;
 use state::StepStatus;
 use state_core::Turn;
 use time::Micros;
@@ -74,15 +73,15 @@ fn subscribe_at(
     out: &mut [u8],
     at: Micros,
     indicate: bool,
-    at_cccd: Cccd,
+    at_cccd: Option<u16>,
 ) -> Turn
     requires { Ready 64 (world t tables.old store.old out.old) }
     ensures { world result tables.new store.new out.new
         ≡ subscribe_at (world t tables.old store.old out.old) at indicate at_cccd }
 {
     match at_cccd {
-        Cccd::Unknown => script_turns::end_turn(t, tables, store, at, StepStatus::NotFound),
-        Cccd::At(handle) => {
+        None => script_turns::end_turn(t, tables, store, at, StepStatus::NotFound),
+        Some(handle) => {
             let pdu = configure(handle, indicate);
             script_turns::request(t, out, at, &pdu)
         }
@@ -106,8 +105,8 @@ pub fn start_subscribe(
     let core = t.core;
     let counts = core.counts;
     match words_characteristic::find_characteristic(tables, counts.characteristics, uuid) {
-        Which::Nothing => script_turns::end_turn(t, tables, store, at, StepStatus::NotFound),
-        Which::At(x) => {
+        None => script_turns::end_turn(t, tables, store, at, StepStatus::NotFound),
+        Some(x) => {
             let at_cccd = x.cccd;
             subscribe_at(t, tables, store, out, at, indicate, at_cccd)
         }
@@ -181,7 +180,7 @@ fn write_to(
 ) -> Turn
     requires { Ready 64 (world t tables.old store.old out.old) × (t.core.running.len ≤ value_size) }
     ensures { world result tables.new store.new out.new
-        ≡ write (world t tables.old store.old out.old) at with_response (At x) }
+        ≡ write (world t tables.old store.old out.old) at with_response (Some x) }
 {
     let core = t.core;
     let running = core.running;
@@ -216,8 +215,8 @@ pub fn start_write(
     let core = t.core;
     let counts = core.counts;
     match words_characteristic::find_characteristic(tables, counts.characteristics, uuid) {
-        Which::Nothing => script_turns::end_turn(t, tables, store, at, StepStatus::NotFound),
-        Which::At(x) => write_to(t, tables, store, out, at, with_response, x),
+        None => script_turns::end_turn(t, tables, store, at, StepStatus::NotFound),
+        Some(x) => write_to(t, tables, store, out, at, with_response, x),
     }
 }
 
@@ -237,8 +236,8 @@ pub fn start_read(
     let core = t.core;
     let counts = core.counts;
     match words_characteristic::find_characteristic(tables, counts.characteristics, uuid) {
-        Which::Nothing => script_turns::end_turn(t, tables, store, at, StepStatus::NotFound),
-        Which::At(x) => {
+        None => script_turns::end_turn(t, tables, store, at, StepStatus::NotFound),
+        Some(x) => {
             let pdu = att_pdu::read_req(x.value_handle);
             script_turns::request(t, out, at, &pdu)
         }

@@ -12,7 +12,6 @@ ghost use Rattle.script_rules.specs.Wait.{Looks, check_wait};
 ghost use Rattle.script_rules.specs.Start.{waits_for, start_unlinked, forgotten, discover_in, disconnect, carried, start_linked, start};
 ghost use Rattle.state_core.specs.Reading.{central, held, world};
 
-use gatt_services::Which;
 use script_rules::Alone;
 use state::{LinkRequest, Sent, Step, StepStatus};
 use state_core::{Core, Turn};
@@ -64,17 +63,17 @@ fn start_characteristics(
     store: &mut [u8],
     out: &mut [u8],
     at: Micros,
-    x: Which,
+    x: Option<Service>,
 ) -> Turn
     requires { Ready 64 (world t tables.old store.old out.old) × Fit (central t.core tables.old) }
     ensures { world result tables.new store.new out.new ≡ discover_in (world t tables.old store.old out.old) at x }
 {
     match x {
-        Which::At(svc) => {
+        Some(svc) => {
             let start = svc.start;
             script_discovery::discover_characteristics(t, tables, store, out, at, svc, start)
         }
-        Which::Nothing => script_discovery::discover_services(t, out, at, 1),
+        None => script_discovery::discover_services(t, out, at, 1),
     }
 }
 

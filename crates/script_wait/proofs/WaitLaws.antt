@@ -1,4 +1,5 @@
 -- What each return asks, from what the callees ensure.
+use Rattle.std.specs.Prelude.{Option, Some, None}
 use Prim.Native.Nat.{ℕ, ◌+◌, ◌-◌}
 use mathlib.Core.Path.{◌≡◌, sym, ap, ap₂, ◌∙◌}
 use mathlib.Core.Bool.{Bool, true, false}
@@ -17,8 +18,6 @@ use Rattle.notifications.specs.declared.Age.{Age}
 use Rattle.notifications.specs.declared.Age.TheVariants.{Any, Within}
 use Rattle.gatt_characteristics.specs.Characteristic.{characteristic_with}
 use Rattle.gatt_characteristics.specs.declared.Characteristic.{Characteristic}
-use Rattle.gatt_characteristics.specs.declared.Which.{Which}
-use Rattle.gatt_characteristics.specs.declared.Which.TheVariants.{At, Nothing}
 use Rattle.state.specs.declared.Counters.{Counters}
 use Rattle.state.specs.declared.StepStatus.TheVariants.{Ok, NotFound}
 use Rattle.script_rules.specs.World.{Held}
@@ -52,11 +51,11 @@ module _ (c : Core) (w st : List ℕ) where
     -- ---- by the characteristic that the step names
 
     module _ (age : Age) where
-      pub none_named : (x : Which) (r : Held) → x ≡ Nothing → r ≡ ends (held c w st) at NotFound → r ≡ check_one (held c w st) at age x
+      pub none_named : (x : Option Characteristic) (r : Held) → x ≡ None → r ≡ ends (held c w st) at NotFound → r ≡ check_one (held c w st) at age x
       unfolding check_one
       none_named x r e f = f ∙ sym (ap (check_one (held c w st) at age) e)
 
-      module _ (x : Which) (k : Characteristic) (v : Wanted) (b : Bool) (e : x ≡ At k) (ev : v ≡ wanted (central c w) at k.value_handle age)
+      module _ (x : Option Characteristic) (k : Characteristic) (v : Wanted) (b : Bool) (e : x ≡ Some k) (ev : v ≡ wanted (central c w) at k.value_handle age)
           (f : b ≡ wait_passes (held c w st) v) where
         by-pass : pick b (passing (held c w st) at v) (held c w st) ≡ check_one (held c w st) at age x
         unfolding check_one
@@ -93,7 +92,7 @@ module _ (c : Core) (w st : List ℕ) where
     unfolding check_for
     check-other a h f g = looks a awaited-variants.Nothing h f g
 
-    pub check-named : (a : Awaited) (u : Uuid) (age : Age) (x : Which) (r : Held) → c.running.active ≡ true → a ≡ awaited c.running.step
+    pub check-named : (a : Awaited) (u : Uuid) (age : Age) (x : Option Characteristic) (r : Held) → c.running.active ≡ true → a ≡ awaited c.running.step
         → a ≡ awaited-variants.On u age → x ≡ characteristic_with u (take c.counts.characteristics (characteristics_in w))
         → r ≡ check_one (held c w st) at age x → r ≡ check_wait (held c w st) at
     unfolding check_for

@@ -6,7 +6,6 @@ ghost use Rattle.state_places.specs.Sizes.{store_size};
 ghost use Rattle.script_rules.specs.Wait.{Looks, wanted, wait_passes, passed_on, passed, check_one, awaited, check_wait};
 ghost use Rattle.state_core.specs.Reading.{central, held};
 
-use gatt_characteristics::Which;
 use notifications::{Age, Wanted};
 use script_rules::Awaited;
 use state::{Counters, Step, StepStatus};
@@ -77,14 +76,14 @@ fn check_one(
     store: &mut [u8],
     at: Micros,
     age: Age,
-    x: Which,
+    x: Option<Characteristic>,
 ) -> Core
     requires { (length store.old ≡ store_size) × Looks (central c tables.old) }
     ensures { held result tables.new store.new ≡ check_one (held c tables.old store.old) at age x }
 {
     match x {
-        Which::Nothing => script_turns::end(c, tables, store, at, StepStatus::NotFound),
-        Which::At(known) => {
+        None => script_turns::end(c, tables, store, at, StepStatus::NotFound),
+        Some(known) => {
             let w = wanted(c, at, known.value_handle, age);
             if wait_passes(c, tables, store, w) {
                 let heard = passed_on(c, tables, w);

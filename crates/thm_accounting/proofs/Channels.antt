@@ -1,4 +1,5 @@
 -- What a frame that is read gives: nothing, or the running step's result.
+use Rattle.std.specs.Prelude.{Option, Some, None}
 use Prim.Native.Nat.{ℕ, ◌+◌, ◌-◌, ◌≤◌}
 use mathlib.Core.Path.{◌≡◌, refl}
 use mathlib.Core.Bool.{Bool, true, false, ◌&&◌}
@@ -16,8 +17,6 @@ use Rattle.att_pdu.specs.Numbers.{op_error_rsp, op_exchange_mtu_req, op_handle_v
 use Rattle.gatt_services.specs.Service as service
 use Rattle.gatt_services.specs.declared.Service.{Service}
 use Rattle.gatt_services.specs.declared.Found as services-found
-use Rattle.gatt_services.specs.declared.Which as service-which
-use Rattle.gatt_services.specs.declared.Which.TheVariants as which-service
 use Rattle.gatt_characteristics.specs.Characteristic as characteristic
 use Rattle.gatt_characteristics.specs.declared.Found as characteristics-found
 use Rattle.gatt_descriptors.specs.declared.Named.{Named}
@@ -82,10 +81,10 @@ module _ (w : World) (at : Micros) (k : Whole w.held) where
   gives-over : (st : StepStatus) → Gives at w.held (over w at st).held
   gives-over st = gives-ends w.held at st k
 
-  gives_into : (x : service-which.Which) → Gives at w.held (walk_into w at x).held
+  gives_into : (x : Option Service) → Gives at w.held (walk_into w at x).held
   unfolding walk_into
-  gives_into which-service.Nothing = gives-over NotFound
-  gives_into (which-service.At svc) = gives-characteristics w at svc svc.start k
+  gives_into None = gives-over NotFound
+  gives_into (Some svc) = gives-characteristics w at svc svc.start k
 
   gives-services-done : (g : Goal) → Gives at w.held (services_done w at g).held
   unfolding services_done
@@ -100,15 +99,15 @@ module _ (w : World) (at : Micros) (k : Whole w.held) where
       go true = gives-descriptors w at svc from k
       go false = gives-over Ok
 
-  gives-range-done : (x : service-which.Which) → Gives at w.held (range_done w at x).held
+  gives-range-done : (x : Option Service) → Gives at w.held (range_done w at x).held
   unfolding range_done
-  gives-range-done which-service.Nothing = gives-over NotFound
-  gives-range-done (which-service.At svc) = gives-go-on svc (after_range w svc)
+  gives-range-done None = gives-over NotFound
+  gives-range-done (Some svc) = gives-go-on svc (after_range w svc)
 
-  gives-characteristics-done : (x : service-which.Which) → Gives at w.held (characteristics_done w at x).held
+  gives-characteristics-done : (x : Option Service) → Gives at w.held (characteristics_done w at x).held
   unfolding characteristics_done
-  gives-characteristics-done which-service.Nothing = gives-over NotFound
-  gives-characteristics-done (which-service.At svc) = gives-descriptors w at svc svc.start k
+  gives-characteristics-done None = gives-over NotFound
+  gives-characteristics-done (Some svc) = gives-descriptors w at svc svc.start k
 
   gives-absent : (a : Asked) → Gives at w.held (absent w at a).held
   unfolding absent
@@ -166,10 +165,10 @@ gives-characteristics-found w at svc f k =
     go q false true = gives-descriptors v at svc svc.start q
     go q false false = gives-characteristics v at svc (f.last + 1) q
 
-gives-characteristics-heard : (w : World) (at : Micros) (n size : ℕ) (x : service-which.Which) → Whole w.held → Gives at w.held (characteristics_heard w at n size x).held
+gives-characteristics-heard : (w : World) (at : Micros) (n size : ℕ) (x : Option Service) → Whole w.held → Gives at w.held (characteristics_heard w at n size x).held
 unfolding characteristics_heard
-gives-characteristics-heard w at n size which-service.Nothing k = gives-over w at k NotFound
-gives-characteristics-heard w at n size (which-service.At svc) k = go (ltb size 7)
+gives-characteristics-heard w at n size None k = gives-over w at k NotFound
+gives-characteristics-heard w at n size (Some svc) k = go (ltb size 7)
   where
     go : (b : Bool)
         → Gives at w.held
@@ -182,10 +181,10 @@ gives-descriptors-found w at svc x k =
     after w (with_characteristics w.held.state x.table) (descriptors_found w at svc x) k (apart-state refl refl refl refl refl refl refl refl refl refl refl)
     (λ q. gives-go-on (become w (with_characteristics w.held.state x.table)) at q svc x.«next») refl
 
-gives-descriptors-heard : (w : World) (at : Micros) (n format : ℕ) (x : service-which.Which) → Whole w.held → Gives at w.held (descriptors_heard w at n format x).held
+gives-descriptors-heard : (w : World) (at : Micros) (n format : ℕ) (x : Option Service) → Whole w.held → Gives at w.held (descriptors_heard w at n format x).held
 unfolding descriptors_heard
-gives-descriptors-heard w at n format which-service.Nothing k = gives-over w at k NotFound
-gives-descriptors-heard w at n format (which-service.At svc) k = go (eqb (width_of format) 0)
+gives-descriptors-heard w at n format None k = gives-over w at k NotFound
+gives-descriptors-heard w at n format (Some svc) k = go (eqb (width_of format) 0)
   where
     go : (b : Bool)
         → Gives at w.held

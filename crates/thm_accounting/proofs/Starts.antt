@@ -1,4 +1,5 @@
 -- What a step that begins gives: nothing, or its own result.
+use Rattle.std.specs.Prelude.{Option, Some, None}
 use Prim.Native.Nat.{ℕ, ◌+◌}
 use mathlib.Core.Path.{refl}
 use mathlib.Core.Bool.{Bool, true, false, ◌||◌}
@@ -11,14 +12,6 @@ use Rattle.time.specs.declared.Micros.{Micros}
 use Rattle.notifications.specs.declared.Age.{Age}
 use Rattle.notifications.specs.declared.Wanted.{Wanted}
 use Rattle.gatt_services.specs.declared.Service.{Service}
-use Rattle.gatt_services.specs.declared.Which as service-which
-use Rattle.gatt_services.specs.declared.Which.TheVariants as service-variants
-use Rattle.gatt_characteristics.specs.declared.Cccd.{Cccd}
-use Rattle.gatt_characteristics.specs.declared.Cccd.TheVariants as cccd
-use Rattle.gatt_characteristics.specs.declared.Which.{Which}
-use Rattle.gatt_characteristics.specs.declared.Which.TheVariants.{At, Nothing}
-use Rattle.gatt_descriptors.specs.declared.Range.{Range}
-use Rattle.gatt_descriptors.specs.declared.Range.TheVariants as range
 use Rattle.gatt_descriptors.specs.Range.{descriptor_range}
 use Rattle.state.specs.Central.{Central, with_counters, with_bearer}
 use Rattle.state.specs.declared.Step.{Step}
@@ -39,6 +32,7 @@ use Rattle.script_rules.specs.declared.Awaited.TheVariants as awaited-variants
 use Rattle.script_rules.specs.Wait.{wanted, wait_passes, passed_on, passed, passing, check_one, awaited, check_for, check_wait}
 use Rattle.script_rules.specs.Start.{ends, waits_for, unlinked_step, start_alone, start_unlinked, forgotten, discover_in, subscribe_at, subscribe, commanded, write, read, terminated, asks_to, disconnect, start_linked, barred, start_on, start}
 use Rattle.thm_accounting.proofs.Gives.{Whole, Gives, nothing, gives_none, gives_then, Apart, apart, apart-state, gives-finish, whole_same}
+use Rattle.gatt_characteristics.specs.declared.Characteristic.{Characteristic}
 
 -- the step ends with no value
 pub gives-ends : (h : Held) (at : Micros) (st : StepStatus) → Whole h → Gives at h (ends h at st)
@@ -61,10 +55,10 @@ pub gives-services : (w : World) (at : Micros) (from : ℕ) → Whole w.held →
 unfolding discover_services
 gives-services w at from k = gives-asking w 0 from at _ k
 
-gives-range : (w : World) (at : Micros) (r : Range) → Whole w.held → Gives at w.held (ask_range w at r).held
+gives-range : (w : World) (at : Micros) (r : Option (ℕ × ℕ)) → Whole w.held → Gives at w.held (ask_range w at r).held
 unfolding ask_range
-gives-range w at range.Nothing k = gives-ends w.held at Ok k
-gives-range w at (range.Is start end) k = gives-asking w 2 start at _ k
+gives-range w at None k = gives-ends w.held at Ok k
+gives-range w at (Some (start, end)) k = gives-asking w 2 start at _ k
 
 pub gives-descriptors : (w : World) (at : Micros) (svc : Service) (from : ℕ) → Whole w.held → Gives at w.held (discover_descriptors w at svc from).held
 unfolding discover_descriptors
@@ -86,10 +80,10 @@ gives-passing h at w k =
     let a : Apart h g = apart-state refl refl refl refl refl refl refl refl refl refl refl in
     gives_then (apart k a) (gives-finish g at Ok held_at 0 (passed_on h.state w w.age) (whole_same k refl refl) (omega arith) (omega arith))
 
-gives_one : (h : Held) (at : Micros) (age : Age) (x : Which) → Whole h → Gives at h (check_one h at age x)
+gives_one : (h : Held) (at : Micros) (age : Age) (x : Option Characteristic) → Whole h → Gives at h (check_one h at age x)
 unfolding check_one
-gives_one h at age Nothing k = gives-finish h at _ held_at 0 0 k (omega arith) (omega arith)
-gives_one h at age (At x) k = let w = wanted h.state at x.value_handle age in go w (wait_passes h w)
+gives_one h at age None k = gives-finish h at _ held_at 0 0 k (omega arith) (omega arith)
+gives_one h at age (Some x) k = let w = wanted h.state at x.value_handle age in go w (wait_passes h w)
   where
     go : (w : Wanted) (b : Bool) → Gives at h (pick b (passing h at w) h)
     go w true = gives-passing h at w k
@@ -116,25 +110,25 @@ gives-alone h at (alone.Runs ms) k = quiet k (apart-state refl refl refl refl re
 gives-alone h at alone.Done k = gives-ends h at _ k
 gives-alone h at alone.NeedsLink k = gives-ends h at _ k
 
-gives-in : (w : World) (at : Micros) (x : service-which.Which) → Whole w.held → Gives at w.held (discover_in w at x).held
+gives-in : (w : World) (at : Micros) (x : Option Service) → Whole w.held → Gives at w.held (discover_in w at x).held
 unfolding discover_in
-gives-in w at (service-variants.At svc) k = gives-characteristics w at svc svc.start k
-gives-in w at service-variants.Nothing k = gives-services w at 1 k
+gives-in w at (Some svc) k = gives-characteristics w at svc svc.start k
+gives-in w at None k = gives-services w at 1 k
 
-gives-subscribe-at : (w : World) (at : Micros) (indicate : Bool) (x : Cccd) → Whole w.held → Gives at w.held (subscribe_at w at indicate x).held
+gives-subscribe-at : (w : World) (at : Micros) (indicate : Bool) (x : Option ℕ) → Whole w.held → Gives at w.held (subscribe_at w at indicate x).held
 unfolding subscribe_at
-gives-subscribe-at w at indicate cccd.Unknown k = gives-ends w.held at _ k
-gives-subscribe-at w at indicate (cccd.At handle) k = gives-request w at _ k
+gives-subscribe-at w at indicate None k = gives-ends w.held at _ k
+gives-subscribe-at w at indicate (Some handle) k = gives-request w at _ k
 
-gives-subscribe : (w : World) (at : Micros) (indicate : Bool) (x : Which) → Whole w.held → Gives at w.held (subscribe w at indicate x).held
+gives-subscribe : (w : World) (at : Micros) (indicate : Bool) (x : Option Characteristic) → Whole w.held → Gives at w.held (subscribe w at indicate x).held
 unfolding subscribe
-gives-subscribe w at indicate Nothing k = gives-ends w.held at _ k
-gives-subscribe w at indicate (At x) k = gives-subscribe-at w at indicate x.cccd k
+gives-subscribe w at indicate None k = gives-ends w.held at _ k
+gives-subscribe w at indicate (Some x) k = gives-subscribe-at w at indicate x.cccd k
 
-gives-write : (w : World) (at : Micros) (response : Bool) (x : Which) → Whole w.held → Gives at w.held (write w at response x).held
+gives-write : (w : World) (at : Micros) (response : Bool) (x : Option Characteristic) → Whole w.held → Gives at w.held (write w at response x).held
 unfolding write
-gives-write w at response Nothing k = gives-ends w.held at _ k
-gives-write w at response (At x) k = go (ltb w.held.state.bearer.link.mtu (w.held.state.running.len + 3)) response
+gives-write w at response None k = gives-ends w.held at _ k
+gives-write w at response (Some x) k = go (ltb w.held.state.bearer.link.mtu (w.held.state.running.len + 3)) response
   where
     n : ℕ
     n = w.held.state.running.len
@@ -146,10 +140,10 @@ gives-write w at response (At x) k = go (ltb w.held.state.bearer.link.mtu (w.hel
     go false true = gives-request w at _ k
     go false false = gives-ends w.held at Ok k
 
-gives-read : (w : World) (at : Micros) (x : Which) → Whole w.held → Gives at w.held (read w at x).held
+gives-read : (w : World) (at : Micros) (x : Option Characteristic) → Whole w.held → Gives at w.held (read w at x).held
 unfolding read
-gives-read w at Nothing k = gives-ends w.held at _ k
-gives-read w at (At x) k = gives-request w at _ k
+gives-read w at None k = gives-ends w.held at _ k
+gives-read w at (Some x) k = gives-request w at _ k
 
 gives-disconnect : {at : Micros} (w : World) → Whole w.held → Gives at w.held (disconnect w).held
 unfolding disconnect

@@ -1,4 +1,5 @@
 -- What a frame that is read counts: a notification one more notified, and nothing else.
+use Rattle.std.specs.Prelude.{Option, Some, None}
 use Prim.Native.Nat.{ℕ, ◌+◌, ◌-◌, ◌≤◌}
 use mathlib.Core.Path.{◌≡◌, refl, sym, subst, ◌∙◌}
 use mathlib.Core.Bool.{Bool, true, false, ◌&&◌}
@@ -17,8 +18,6 @@ use Rattle.att_pdu.specs.Numbers.{op_error_rsp, op_exchange_mtu_req, op_handle_v
 use Rattle.gatt_services.specs.Service as service
 use Rattle.gatt_services.specs.declared.Service.{Service}
 use Rattle.gatt_services.specs.declared.Found as services-found
-use Rattle.gatt_services.specs.declared.Which as service-which
-use Rattle.gatt_services.specs.declared.Which.TheVariants as which-service
 use Rattle.gatt_characteristics.specs.Characteristic as characteristic
 use Rattle.gatt_characteristics.specs.declared.Found as characteristics-found
 use Rattle.gatt_descriptors.specs.declared.Named.{Named}
@@ -47,10 +46,10 @@ module _ (w : World) (at : Micros) where
   kept-over : (st : StepStatus) → Kept w.held (over w at st).held
   kept-over st = kept-ends w.held at st
 
-  kept-into : (x : service-which.Which) → Kept w.held (walk_into w at x).held
+  kept-into : (x : Option Service) → Kept w.held (walk_into w at x).held
   unfolding walk_into
-  kept-into which-service.Nothing = kept-over NotFound
-  kept-into (which-service.At svc) = kept-characteristics w at svc svc.start
+  kept-into None = kept-over NotFound
+  kept-into (Some svc) = kept-characteristics w at svc svc.start
 
   kept-services-done : (g : Goal) → Kept w.held (services_done w at g).held
   unfolding services_done
@@ -65,15 +64,15 @@ module _ (w : World) (at : Micros) where
       go true = kept-descriptors w at svc from
       go false = kept-over Ok
 
-  kept-range-done : (x : service-which.Which) → Kept w.held (range_done w at x).held
+  kept-range-done : (x : Option Service) → Kept w.held (range_done w at x).held
   unfolding range_done
-  kept-range-done which-service.Nothing = kept-over NotFound
-  kept-range-done (which-service.At svc) = kept-go-on svc (after_range w svc)
+  kept-range-done None = kept-over NotFound
+  kept-range-done (Some svc) = kept-go-on svc (after_range w svc)
 
-  kept-characteristics-done : (x : service-which.Which) → Kept w.held (characteristics_done w at x).held
+  kept-characteristics-done : (x : Option Service) → Kept w.held (characteristics_done w at x).held
   unfolding characteristics_done
-  kept-characteristics-done which-service.Nothing = kept-over NotFound
-  kept-characteristics-done (which-service.At svc) = kept-descriptors w at svc svc.start
+  kept-characteristics-done None = kept-over NotFound
+  kept-characteristics-done (Some svc) = kept-descriptors w at svc svc.start
 
   kept-absent : (a : Asked) → Kept w.held (absent w at a).held
   unfolding absent
@@ -130,10 +129,10 @@ kept-characteristics-found w at svc f =
     go false true = kept-descriptors v at svc svc.start
     go false false = kept-characteristics v at svc (f.last + 1)
 
-kept-characteristics-heard : (w : World) (at : Micros) (n size : ℕ) (x : service-which.Which) → Kept w.held (characteristics_heard w at n size x).held
+kept-characteristics-heard : (w : World) (at : Micros) (n size : ℕ) (x : Option Service) → Kept w.held (characteristics_heard w at n size x).held
 unfolding characteristics_heard
-kept-characteristics-heard w at n size which-service.Nothing = kept-over w at NotFound
-kept-characteristics-heard w at n size (which-service.At svc) = go (ltb size 7)
+kept-characteristics-heard w at n size None = kept-over w at NotFound
+kept-characteristics-heard w at n size (Some svc) = go (ltb size 7)
   where
     go : (b : Bool)
         → Kept w.held
@@ -146,10 +145,10 @@ kept-descriptors-found w at svc x =
     after w (with_characteristics w.held.state x.table) (descriptors_found w at svc x) refl
     (kept-go-on (become w (with_characteristics w.held.state x.table)) at svc x.«next»)
 
-kept-descriptors-heard : (w : World) (at : Micros) (n format : ℕ) (x : service-which.Which) → Kept w.held (descriptors_heard w at n format x).held
+kept-descriptors-heard : (w : World) (at : Micros) (n format : ℕ) (x : Option Service) → Kept w.held (descriptors_heard w at n format x).held
 unfolding descriptors_heard
-kept-descriptors-heard w at n format which-service.Nothing = kept-over w at NotFound
-kept-descriptors-heard w at n format (which-service.At svc) = go (eqb (width_of format) 0)
+kept-descriptors-heard w at n format None = kept-over w at NotFound
+kept-descriptors-heard w at n format (Some svc) = go (eqb (width_of format) 0)
   where
     go : (b : Bool)
         → Kept w.held

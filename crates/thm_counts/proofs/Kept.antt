@@ -1,4 +1,5 @@
 -- What leaves the three counts as they are: all that a step does when it begins, and when it ends.
+use Rattle.std.specs.Prelude.{Option, Some, None}
 use Prim.Native.Nat.{ℕ, ◌+◌}
 use mathlib.Core.Path.{◌≡◌, refl, ap, ◌∙◌}
 use mathlib.Core.Bool.{Bool, true, false, ◌||◌}
@@ -11,14 +12,6 @@ use Rattle.time.specs.declared.Millis.{Millis}
 use Rattle.notifications.specs.declared.Age.{Age}
 use Rattle.notifications.specs.declared.Wanted.{Wanted}
 use Rattle.gatt_services.specs.declared.Service.{Service}
-use Rattle.gatt_services.specs.declared.Which as service-which
-use Rattle.gatt_services.specs.declared.Which.TheVariants as service-variants
-use Rattle.gatt_characteristics.specs.declared.Cccd.{Cccd}
-use Rattle.gatt_characteristics.specs.declared.Cccd.TheVariants as cccd
-use Rattle.gatt_characteristics.specs.declared.Which.{Which}
-use Rattle.gatt_characteristics.specs.declared.Which.TheVariants.{At, Nothing}
-use Rattle.gatt_descriptors.specs.declared.Range.{Range}
-use Rattle.gatt_descriptors.specs.declared.Range.TheVariants as range
 use Rattle.gatt_descriptors.specs.Range.{descriptor_range}
 use Rattle.state.specs.Central.{Central, with_counters, with_bearer}
 use Rattle.state.specs.declared.Counters.{Counters}
@@ -40,6 +33,7 @@ use Rattle.script_rules.specs.declared.Awaited.{Awaited}
 use Rattle.script_rules.specs.declared.Awaited.TheVariants as awaited-variants
 use Rattle.script_rules.specs.Wait.{wanted, wait_passes, passed_on, passed, passing, check_one, awaited, check_for, check_wait}
 use Rattle.script_rules.specs.Start.{ends, waits_for, unlinked_step, start_alone, start_unlinked, forgotten, discover_in, subscribe_at, subscribe, commanded, write, read, terminated, asks_to, disconnect, start_linked, barred, start_on, start}
+use Rattle.gatt_characteristics.specs.declared.Characteristic.{Characteristic}
 
 pub record Kept (h g : Held) : Type 0 where
   pub notified : g.state.counters.notified ≡ h.state.counters.notified
@@ -89,10 +83,10 @@ pub kept-services : (w : World) (at : Micros) (from : ℕ) → Kept w.held (disc
 unfolding discover_services
 kept-services w at from = kept-asking w 0 from at _
 
-kept-range : (w : World) (at : Micros) (r : Range) → Kept w.held (ask_range w at r).held
+kept-range : (w : World) (at : Micros) (r : Option (ℕ × ℕ)) → Kept w.held (ask_range w at r).held
 unfolding ask_range
-kept-range w at range.Nothing = kept-ends w.held at Ok
-kept-range w at (range.Is start end) = kept-asking w 2 start at _
+kept-range w at None = kept-ends w.held at Ok
+kept-range w at (Some (start, end)) = kept-asking w 2 start at _
 
 pub kept-descriptors : (w : World) (at : Micros) (svc : Service) (from : ℕ) → Kept w.held (discover_descriptors w at svc from).held
 unfolding discover_descriptors
@@ -114,10 +108,10 @@ kept-passing h at w =
     let a : Kept h g = record { notified = refl; refused = refl; links = refl } in
     kept_then a (kept-finish g at Ok held_at 0 (passed_on h.state w w.age))
 
-kept-one : (h : Held) (at : Micros) (age : Age) (x : Which) → Kept h (check_one h at age x)
+kept-one : (h : Held) (at : Micros) (age : Age) (x : Option Characteristic) → Kept h (check_one h at age x)
 unfolding check_one
-kept-one h at age Nothing = kept-finish h at _ held_at 0 0
-kept-one h at age (At x) = let w = wanted h.state at x.value_handle age in go w (wait_passes h w)
+kept-one h at age None = kept-finish h at _ held_at 0 0
+kept-one h at age (Some x) = let w = wanted h.state at x.value_handle age in go w (wait_passes h w)
   where
     go : (w : Wanted) (b : Bool) → Kept h (pick b (passing h at w) h)
     go w true = kept-passing h at w
@@ -144,25 +138,25 @@ kept-alone h at (alone.Runs ms) = still refl
 kept-alone h at alone.Done = kept-ends h at _
 kept-alone h at alone.NeedsLink = kept-ends h at _
 
-kept_in : (w : World) (at : Micros) (x : service-which.Which) → Kept w.held (discover_in w at x).held
+kept_in : (w : World) (at : Micros) (x : Option Service) → Kept w.held (discover_in w at x).held
 unfolding discover_in
-kept_in w at (service-variants.At svc) = kept-characteristics w at svc svc.start
-kept_in w at service-variants.Nothing = kept-services w at 1
+kept_in w at (Some svc) = kept-characteristics w at svc svc.start
+kept_in w at None = kept-services w at 1
 
-kept-subscribe-at : (w : World) (at : Micros) (indicate : Bool) (x : Cccd) → Kept w.held (subscribe_at w at indicate x).held
+kept-subscribe-at : (w : World) (at : Micros) (indicate : Bool) (x : Option ℕ) → Kept w.held (subscribe_at w at indicate x).held
 unfolding subscribe_at
-kept-subscribe-at w at indicate cccd.Unknown = kept-ends w.held at _
-kept-subscribe-at w at indicate (cccd.At handle) = kept-request w at _
+kept-subscribe-at w at indicate None = kept-ends w.held at _
+kept-subscribe-at w at indicate (Some handle) = kept-request w at _
 
-kept-subscribe : (w : World) (at : Micros) (indicate : Bool) (x : Which) → Kept w.held (subscribe w at indicate x).held
+kept-subscribe : (w : World) (at : Micros) (indicate : Bool) (x : Option Characteristic) → Kept w.held (subscribe w at indicate x).held
 unfolding subscribe
-kept-subscribe w at indicate Nothing = kept-ends w.held at _
-kept-subscribe w at indicate (At x) = kept-subscribe-at w at indicate x.cccd
+kept-subscribe w at indicate None = kept-ends w.held at _
+kept-subscribe w at indicate (Some x) = kept-subscribe-at w at indicate x.cccd
 
-kept-write : (w : World) (at : Micros) (response : Bool) (x : Which) → Kept w.held (write w at response x).held
+kept-write : (w : World) (at : Micros) (response : Bool) (x : Option Characteristic) → Kept w.held (write w at response x).held
 unfolding write
-kept-write w at response Nothing = kept-ends w.held at _
-kept-write w at response (At x) = go (ltb w.held.state.bearer.link.mtu (w.held.state.running.len + 3)) response
+kept-write w at response None = kept-ends w.held at _
+kept-write w at response (Some x) = go (ltb w.held.state.bearer.link.mtu (w.held.state.running.len + 3)) response
   where
     n : ℕ
     n = w.held.state.running.len
@@ -174,10 +168,10 @@ kept-write w at response (At x) = go (ltb w.held.state.bearer.link.mtu (w.held.s
     go false true = kept-request w at _
     go false false = kept-ends w.held at Ok
 
-kept_read : (w : World) (at : Micros) (x : Which) → Kept w.held (read w at x).held
+kept_read : (w : World) (at : Micros) (x : Option Characteristic) → Kept w.held (read w at x).held
 unfolding read
-kept_read w at Nothing = kept-ends w.held at _
-kept_read w at (At x) = kept-request w at _
+kept_read w at None = kept-ends w.held at _
+kept_read w at (Some x) = kept-request w at _
 
 kept-disconnect : (w : World) → Kept w.held (disconnect w).held
 unfolding disconnect

@@ -1,4 +1,5 @@
 -- What a frame that is read leaves: the link, its handle and the number of bytes held.
+use Rattle.std.specs.Prelude.{Option, Some, None}
 use Prim.Native.Nat.{ℕ, ◌+◌, ◌-◌}
 use mathlib.Core.Path.{◌≡◌, refl}
 use mathlib.Core.Bool.{Bool, true, false, ◌&&◌}
@@ -13,8 +14,6 @@ use Rattle.att_pdu.specs.Numbers.{op_error_rsp, op_exchange_mtu_req, op_handle_v
 use Rattle.gatt_services.specs.Service as service
 use Rattle.gatt_services.specs.declared.Service.{Service}
 use Rattle.gatt_services.specs.declared.Found as services-found
-use Rattle.gatt_services.specs.declared.Which as service-which
-use Rattle.gatt_services.specs.declared.Which.TheVariants as which-service
 use Rattle.gatt_characteristics.specs.Characteristic as characteristic
 use Rattle.gatt_characteristics.specs.declared.Found as characteristics-found
 use Rattle.gatt_descriptors.specs.declared.Named.{Named}
@@ -41,10 +40,10 @@ module _ (w : World) (at : Micros) where
   bears-over : (st : StepStatus) → Bears w.held (over w at st).held
   bears-over st = (keeps-ends w.held at st).bears
 
-  bears-into : (x : service-which.Which) → Bears w.held (walk_into w at x).held
+  bears-into : (x : Option Service) → Bears w.held (walk_into w at x).held
   unfolding walk_into
-  bears-into which-service.Nothing = bears-over NotFound
-  bears-into (which-service.At svc) = (keeps-characteristics w at svc svc.start).bears
+  bears-into None = bears-over NotFound
+  bears-into (Some svc) = (keeps-characteristics w at svc svc.start).bears
 
   bears-services-done : (g : Goal) → Bears w.held (services_done w at g).held
   unfolding services_done
@@ -59,15 +58,15 @@ module _ (w : World) (at : Micros) where
       go true = (keeps-descriptors w at svc from).bears
       go false = bears-over Ok
 
-  bears-range-done : (x : service-which.Which) → Bears w.held (range_done w at x).held
+  bears-range-done : (x : Option Service) → Bears w.held (range_done w at x).held
   unfolding range_done
-  bears-range-done which-service.Nothing = bears-over NotFound
-  bears-range-done (which-service.At svc) = bears-go-on svc (after_range w svc)
+  bears-range-done None = bears-over NotFound
+  bears-range-done (Some svc) = bears-go-on svc (after_range w svc)
 
-  bears-characteristics-done : (x : service-which.Which) → Bears w.held (characteristics_done w at x).held
+  bears-characteristics-done : (x : Option Service) → Bears w.held (characteristics_done w at x).held
   unfolding characteristics_done
-  bears-characteristics-done which-service.Nothing = bears-over NotFound
-  bears-characteristics-done (which-service.At svc) = (keeps-descriptors w at svc svc.start).bears
+  bears-characteristics-done None = bears-over NotFound
+  bears-characteristics-done (Some svc) = (keeps-descriptors w at svc svc.start).bears
 
   bears-absent : (a : Asked) → Bears w.held (absent w at a).held
   unfolding absent
@@ -129,10 +128,10 @@ bears-characteristics-found w at svc f =
     go false true = (keeps-descriptors v at svc svc.start).bears
     go false false = (keeps-characteristics v at svc (f.last + 1)).bears
 
-bears-characteristics-heard : (w : World) (at : Micros) (n size : ℕ) (x : service-which.Which) → Bears w.held (characteristics_heard w at n size x).held
+bears-characteristics-heard : (w : World) (at : Micros) (n size : ℕ) (x : Option Service) → Bears w.held (characteristics_heard w at n size x).held
 unfolding characteristics_heard
-bears-characteristics-heard w at n size which-service.Nothing = bears-over w at NotFound
-bears-characteristics-heard w at n size (which-service.At svc) = go (ltb size 7)
+bears-characteristics-heard w at n size None = bears-over w at NotFound
+bears-characteristics-heard w at n size (Some svc) = go (ltb size 7)
   where
     go : (b : Bool)
         → Bears w.held
@@ -145,10 +144,10 @@ bears-descriptors-found w at svc x =
     after w (with_characteristics w.held.state x.table) (descriptors_found w at svc x) (untouched refl refl refl refl refl)
     (bears-go-on (become w (with_characteristics w.held.state x.table)) at svc x.«next»)
 
-bears-descriptors-heard : (w : World) (at : Micros) (n format : ℕ) (x : service-which.Which) → Bears w.held (descriptors_heard w at n format x).held
+bears-descriptors-heard : (w : World) (at : Micros) (n format : ℕ) (x : Option Service) → Bears w.held (descriptors_heard w at n format x).held
 unfolding descriptors_heard
-bears-descriptors-heard w at n format which-service.Nothing = bears-over w at NotFound
-bears-descriptors-heard w at n format (which-service.At svc) = go (eqb (width_of format) 0)
+bears-descriptors-heard w at n format None = bears-over w at NotFound
+bears-descriptors-heard w at n format (Some svc) = go (eqb (width_of format) 0)
   where
     go : (b : Bool)
         → Bears w.held

@@ -1,4 +1,5 @@
 -- What leaves the link, its handle and what is held of a frame as they are: all that a step does when it begins, and when it ends.
+use Rattle.std.specs.Prelude.{Option, Some, None}
 use Prim.Native.Nat.{ℕ, ◌+◌, ◌*◌, ◌≤◌, ◌<◌}
 use mathlib.Core.Path.{◌≡◌, refl, ap, ◌∙◌}
 use mathlib.Core.Bool.{Bool, true, false, ◌||◌}
@@ -18,14 +19,6 @@ use Rattle.time.specs.declared.Millis.{Millis}
 use Rattle.notifications.specs.declared.Age.{Age}
 use Rattle.notifications.specs.declared.Wanted.{Wanted}
 use Rattle.gatt_services.specs.declared.Service.{Service}
-use Rattle.gatt_services.specs.declared.Which as service-which
-use Rattle.gatt_services.specs.declared.Which.TheVariants as service-variants
-use Rattle.gatt_characteristics.specs.declared.Cccd.{Cccd}
-use Rattle.gatt_characteristics.specs.declared.Cccd.TheVariants as cccd
-use Rattle.gatt_characteristics.specs.declared.Which.{Which}
-use Rattle.gatt_characteristics.specs.declared.Which.TheVariants.{At, Nothing}
-use Rattle.gatt_descriptors.specs.declared.Range.{Range}
-use Rattle.gatt_descriptors.specs.declared.Range.TheVariants as range
 use Rattle.gatt_descriptors.specs.Range.{descriptor_range}
 use Rattle.state.specs.Central.{Central, with_counters, with_bearer}
 use Rattle.state.specs.declared.Step.{Step}
@@ -46,6 +39,7 @@ use Rattle.script_rules.specs.declared.Awaited.{Awaited}
 use Rattle.script_rules.specs.declared.Awaited.TheVariants as awaited-variants
 use Rattle.script_rules.specs.Wait.{wanted, wait_passes, passed_on, passed, passing, check_one, awaited, check_for, check_wait}
 use Rattle.script_rules.specs.Start.{ends, waits_for, unlinked_step, start_alone, start_unlinked, forgotten, discover_in, subscribe_at, subscribe, commanded, write, read, terminated, asks_to, disconnect, start_linked, barred, start_on, start}
+use Rattle.gatt_characteristics.specs.declared.Characteristic.{Characteristic}
 
 -- the link, its handle, the number of bytes held, whether the bearer is closed and what was chosen are as they were
 pub record Bears (h g : Held) : Type 0 where
@@ -137,10 +131,10 @@ pub keeps-services : (w : World) (at : Micros) (from : ℕ) → Keeps w.held (di
 unfolding discover_services
 keeps-services w at from = keeps-asking w 0 from at _
 
-keeps-range : (w : World) (at : Micros) (r : Range) → Keeps w.held (ask_range w at r).held
+keeps-range : (w : World) (at : Micros) (r : Option (ℕ × ℕ)) → Keeps w.held (ask_range w at r).held
 unfolding ask_range
-keeps-range w at range.Nothing = keeps-ends w.held at Ok
-keeps-range w at (range.Is start end) = keeps-asking w 2 start at _
+keeps-range w at None = keeps-ends w.held at Ok
+keeps-range w at (Some (start, end)) = keeps-asking w 2 start at _
 
 pub keeps-descriptors : (w : World) (at : Micros) (svc : Service) (from : ℕ) → Keeps w.held (discover_descriptors w at svc from).held
 unfolding discover_descriptors
@@ -163,10 +157,10 @@ keeps-passing h at w =
     let n = passed_on h.state w w.age in
     keeps_then a (record { bears = bears-finish g at Ok held_at 0 n; above = above-finish g at Ok held_at 0 n (omega arith) })
 
-keeps-one : (h : Held) (at : Micros) (age : Age) (x : Which) → Keeps h (check_one h at age x)
+keeps-one : (h : Held) (at : Micros) (age : Age) (x : Option Characteristic) → Keeps h (check_one h at age x)
 unfolding check_one
-keeps-one h at age Nothing = keeps-ends h at _
-keeps-one h at age (At x) = let w = wanted h.state at x.value_handle age in go w (wait_passes h w)
+keeps-one h at age None = keeps-ends h at _
+keeps-one h at age (Some x) = let w = wanted h.state at x.value_handle age in go w (wait_passes h w)
   where
     go : (w : Wanted) (b : Bool) → Keeps h (pick b (passing h at w) h)
     go w true = keeps-passing h at w
@@ -193,25 +187,25 @@ keeps-alone h at (alone.Runs ms) = still refl refl refl refl refl
 keeps-alone h at alone.Done = keeps-ends h at _
 keeps-alone h at alone.NeedsLink = keeps-ends h at _
 
-keeps-in : (w : World) (at : Micros) (x : service-which.Which) → Keeps w.held (discover_in w at x).held
+keeps-in : (w : World) (at : Micros) (x : Option Service) → Keeps w.held (discover_in w at x).held
 unfolding discover_in
-keeps-in w at (service-variants.At svc) = keeps-characteristics w at svc svc.start
-keeps-in w at service-variants.Nothing = keeps-services w at 1
+keeps-in w at (Some svc) = keeps-characteristics w at svc svc.start
+keeps-in w at None = keeps-services w at 1
 
-keeps-subscribe-at : (w : World) (at : Micros) (indicate : Bool) (x : Cccd) → Keeps w.held (subscribe_at w at indicate x).held
+keeps-subscribe-at : (w : World) (at : Micros) (indicate : Bool) (x : Option ℕ) → Keeps w.held (subscribe_at w at indicate x).held
 unfolding subscribe_at
-keeps-subscribe-at w at indicate cccd.Unknown = keeps-ends w.held at _
-keeps-subscribe-at w at indicate (cccd.At handle) = keeps-request w at _
+keeps-subscribe-at w at indicate None = keeps-ends w.held at _
+keeps-subscribe-at w at indicate (Some handle) = keeps-request w at _
 
-keeps-subscribe : (w : World) (at : Micros) (indicate : Bool) (x : Which) → Keeps w.held (subscribe w at indicate x).held
+keeps-subscribe : (w : World) (at : Micros) (indicate : Bool) (x : Option Characteristic) → Keeps w.held (subscribe w at indicate x).held
 unfolding subscribe
-keeps-subscribe w at indicate Nothing = keeps-ends w.held at _
-keeps-subscribe w at indicate (At x) = keeps-subscribe-at w at indicate x.cccd
+keeps-subscribe w at indicate None = keeps-ends w.held at _
+keeps-subscribe w at indicate (Some x) = keeps-subscribe-at w at indicate x.cccd
 
-keeps-write : (w : World) (at : Micros) (response : Bool) (x : Which) → Keeps w.held (write w at response x).held
+keeps-write : (w : World) (at : Micros) (response : Bool) (x : Option Characteristic) → Keeps w.held (write w at response x).held
 unfolding write
-keeps-write w at response Nothing = keeps-ends w.held at _
-keeps-write w at response (At x) = go (ltb w.held.state.bearer.link.mtu (w.held.state.running.len + 3)) response
+keeps-write w at response None = keeps-ends w.held at _
+keeps-write w at response (Some x) = go (ltb w.held.state.bearer.link.mtu (w.held.state.running.len + 3)) response
   where
     n : ℕ
     n = w.held.state.running.len
@@ -223,10 +217,10 @@ keeps-write w at response (At x) = go (ltb w.held.state.bearer.link.mtu (w.held.
     go false true = keeps-request w at _
     go false false = keeps-ends w.held at Ok
 
-keeps-read : (w : World) (at : Micros) (x : Which) → Keeps w.held (read w at x).held
+keeps-read : (w : World) (at : Micros) (x : Option Characteristic) → Keeps w.held (read w at x).held
 unfolding read
-keeps-read w at Nothing = keeps-ends w.held at _
-keeps-read w at (At x) = keeps-request w at _
+keeps-read w at None = keeps-ends w.held at _
+keeps-read w at (Some x) = keeps-request w at _
 
 keeps-disconnect : (w : World) → Keeps w.held (disconnect w).held
 unfolding disconnect

@@ -1,4 +1,5 @@
 -- What leaves the tables, the notifications and their counters: all that a step does when it begins and when it ends, but for two kinds.
+use Rattle.std.specs.Prelude.{Option, Some, None}
 use Prim.Native.Nat.{ℕ, suc, ◌+◌, ◌*◌, ◌≤◌, ◌<◌}
 use mathlib.Core.Path.{◌≡◌, refl, sym, ap, ap₂, ◌∙◌}
 use mathlib.Core.Bool.{Bool, true, false, ◌||◌, false≢true}
@@ -18,14 +19,6 @@ use Rattle.notifications.specs.declared.Notifications.{Notifications}
 use Rattle.notifications.specs.declared.Age.{Age}
 use Rattle.notifications.specs.declared.Wanted.{Wanted}
 use Rattle.gatt_services.specs.declared.Service.{Service}
-use Rattle.gatt_services.specs.declared.Which as service-which
-use Rattle.gatt_services.specs.declared.Which.TheVariants as service-variants
-use Rattle.gatt_characteristics.specs.declared.Cccd.{Cccd}
-use Rattle.gatt_characteristics.specs.declared.Cccd.TheVariants as cccd
-use Rattle.gatt_characteristics.specs.declared.Which.{Which}
-use Rattle.gatt_characteristics.specs.declared.Which.TheVariants.{At, Nothing}
-use Rattle.gatt_descriptors.specs.declared.Range.{Range}
-use Rattle.gatt_descriptors.specs.declared.Range.TheVariants as range
 use Rattle.gatt_descriptors.specs.Range.{descriptor_range}
 use Rattle.l2cap.specs.Frame.{att_pdu}
 use Rattle.att_pdu.specs.Numbers.{op_write_req}
@@ -47,6 +40,7 @@ use Rattle.script_rules.specs.declared.Awaited.TheVariants as awaited-variants
 use Rattle.script_rules.specs.Wait.{wanted, wait_passes, passed_on, passed, passing, check_one, awaited, check_for, check_wait}
 use Rattle.script_rules.specs.Start.{ends, waits_for, unlinked_step, start_alone, start_unlinked, forgotten, discover_in, subscribe_at, subscribe, commanded, write, read, terminated, asks_to, disconnect, start_linked, barred, start_on, start}
 use Rattle.thm_links.specs.Keeps.{kept_notifications, Keeps, starts_quietly}
+use Rattle.gatt_characteristics.specs.declared.Characteristic.{Characteristic}
 
 -- ---- what is left alone
 
@@ -167,10 +161,10 @@ leaves-services : (w : World) (at : Micros) (from : ℕ) → Leaves w.held (disc
 unfolding discover_services
 leaves-services w at from = leaves-asking w 0 from at _
 
-leaves-range : (w : World) (at : Micros) (r : Range) → Leaves w.held (ask_range w at r).held
+leaves-range : (w : World) (at : Micros) (r : Option (ℕ × ℕ)) → Leaves w.held (ask_range w at r).held
 unfolding ask_range
-leaves-range w at range.Nothing = leaves-ends w.held at Ok
-leaves-range w at (range.Is start end) = leaves-asking w 2 start at _
+leaves-range w at None = leaves-ends w.held at Ok
+leaves-range w at (Some (start, end)) = leaves-asking w 2 start at _
 
 leaves-descriptors : (w : World) (at : Micros) (svc : Service) (from : ℕ) → Leaves w.held (discover_descriptors w at svc from).held
 unfolding discover_descriptors
@@ -192,10 +186,10 @@ hears-passing h at w =
     let a : Hears h g = record { queue = refl; notifications = refl; notified = refl; links = refl; store = refl } in
     hears-then a (leaves-finish g at Ok (passed_on h.state w w.age)).hears
 
-hears-one : (h : Held) (at : Micros) (age : Age) (x : Which) → Hears h (check_one h at age x)
+hears-one : (h : Held) (at : Micros) (age : Age) (x : Option Characteristic) → Hears h (check_one h at age x)
 unfolding check_one
-hears-one h at age Nothing = (leaves-ends h at _).hears
-hears-one h at age (At x) = let w = wanted h.state at x.value_handle age in go w (wait_passes h w)
+hears-one h at age None = (leaves-ends h at _).hears
+hears-one h at age (Some x) = let w = wanted h.state at x.value_handle age in go w (wait_passes h w)
   where
     go : (w : Wanted) (b : Bool) → Hears h (pick b (passing h at w) h)
     go w true = hears-passing h at w
@@ -222,25 +216,25 @@ leaves-alone h at (alone.Runs ms) = still refl refl refl refl refl
 leaves-alone h at alone.Done = leaves-ends h at _
 leaves-alone h at alone.NeedsLink = leaves-ends h at _
 
-leaves_in : (w : World) (at : Micros) (x : service-which.Which) → Leaves w.held (discover_in w at x).held
+leaves_in : (w : World) (at : Micros) (x : Option Service) → Leaves w.held (discover_in w at x).held
 unfolding discover_in
-leaves_in w at (service-variants.At svc) = leaves-characteristics w at svc svc.start
-leaves_in w at service-variants.Nothing = leaves-services w at 1
+leaves_in w at (Some svc) = leaves-characteristics w at svc svc.start
+leaves_in w at None = leaves-services w at 1
 
-leaves-subscribe-at : (w : World) (at : Micros) (indicate : Bool) (x : Cccd) → Leaves w.held (subscribe_at w at indicate x).held
+leaves-subscribe-at : (w : World) (at : Micros) (indicate : Bool) (x : Option ℕ) → Leaves w.held (subscribe_at w at indicate x).held
 unfolding subscribe_at
-leaves-subscribe-at w at indicate cccd.Unknown = leaves-ends w.held at _
-leaves-subscribe-at w at indicate (cccd.At handle) = leaves-request w at _
+leaves-subscribe-at w at indicate None = leaves-ends w.held at _
+leaves-subscribe-at w at indicate (Some handle) = leaves-request w at _
 
-leaves-subscribe : (w : World) (at : Micros) (indicate : Bool) (x : Which) → Leaves w.held (subscribe w at indicate x).held
+leaves-subscribe : (w : World) (at : Micros) (indicate : Bool) (x : Option Characteristic) → Leaves w.held (subscribe w at indicate x).held
 unfolding subscribe
-leaves-subscribe w at indicate Nothing = leaves-ends w.held at _
-leaves-subscribe w at indicate (At x) = leaves-subscribe-at w at indicate x.cccd
+leaves-subscribe w at indicate None = leaves-ends w.held at _
+leaves-subscribe w at indicate (Some x) = leaves-subscribe-at w at indicate x.cccd
 
-leaves-write : (w : World) (at : Micros) (response : Bool) (x : Which) → Leaves w.held (write w at response x).held
+leaves-write : (w : World) (at : Micros) (response : Bool) (x : Option Characteristic) → Leaves w.held (write w at response x).held
 unfolding write
-leaves-write w at response Nothing = leaves-ends w.held at _
-leaves-write w at response (At x) = go (ltb w.held.state.bearer.link.mtu (w.held.state.running.len + 3)) response
+leaves-write w at response None = leaves-ends w.held at _
+leaves-write w at response (Some x) = go (ltb w.held.state.bearer.link.mtu (w.held.state.running.len + 3)) response
   where
     n : ℕ
     n = w.held.state.running.len
@@ -252,10 +246,10 @@ leaves-write w at response (At x) = go (ltb w.held.state.bearer.link.mtu (w.held
     go false true = leaves-request w at _
     go false false = leaves-ends w.held at Ok
 
-leaves-read : (w : World) (at : Micros) (x : Which) → Leaves w.held (read w at x).held
+leaves-read : (w : World) (at : Micros) (x : Option Characteristic) → Leaves w.held (read w at x).held
 unfolding read
-leaves-read w at Nothing = leaves-ends w.held at _
-leaves-read w at (At x) = leaves-request w at _
+leaves-read w at None = leaves-ends w.held at _
+leaves-read w at (Some x) = leaves-request w at _
 
 leaves-disconnect : (w : World) → Leaves w.held (disconnect w).held
 unfolding disconnect

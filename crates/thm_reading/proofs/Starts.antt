@@ -1,4 +1,5 @@
 -- The wait check, discovery's requests and what a step does when it begins are blind to dead places.
+use Rattle.std.specs.Prelude.{Option, Some, None}
 use Prim.Native.Nat.{ℕ, ◌+◌, ◌-◌, max}
 use mathlib.Core.Path.{◌≡◌, refl, sym, ap, ◌∙◌}
 use mathlib.Core.Bool.{Bool, ◌||◌}
@@ -17,16 +18,8 @@ use Rattle.att_pdu.specs.Pdu.{exchange_mtu_req, read_req, write_req, read_by_typ
 use Rattle.uuid_value.specs.declared.Uuid.{Uuid}
 use Rattle.gatt_services.specs.Service as service
 use Rattle.gatt_services.specs.declared.Service.{Service}
-use Rattle.gatt_services.specs.declared.Which as service-which
-use Rattle.gatt_services.specs.declared.Which.TheVariants as service-variants
 use Rattle.gatt_characteristics.specs.Characteristic as characteristic
 use Rattle.gatt_characteristics.specs.declared.Characteristic.{Characteristic}
-use Rattle.gatt_characteristics.specs.declared.Cccd.{Cccd}
-use Rattle.gatt_characteristics.specs.declared.Cccd.TheVariants as cccd
-use Rattle.gatt_characteristics.specs.declared.Which.{Which}
-use Rattle.gatt_characteristics.specs.declared.Which.TheVariants.{At, Nothing}
-use Rattle.gatt_descriptors.specs.declared.Range.{Range}
-use Rattle.gatt_descriptors.specs.declared.Range.TheVariants as range
 use Rattle.gatt_descriptors.specs.Range.{declared_in, first_range, descriptor_range}
 use Rattle.notifications.specs.declared.Notification.{Notification}
 use Rattle.notifications.specs.declared.Wanted.{Wanted}
@@ -59,17 +52,17 @@ use Rattle.thm_reading.proofs.Turns.{finish-blind, finish-world, waits-blind, re
 -- ---- what is looked up in a table
 
 -- the characteristic of a UUID, by which the work goes on
-pub by-characteristic : {X : Type 0} (f : Which → X) (c : Central) (u : Uuid)
+pub by-characteristic : {X : Type 0} (f : Option Characteristic → X) (c : Central) (u : Uuid)
     → f (characteristic.characteristic_with u (characteristic.known c.characteristics))
     ≡ f (characteristic.characteristic_with u (characteristic.known (live c).characteristics))
 by-characteristic f c u =
     ap (λ (l : List Characteristic). f (characteristic.characteristic_with u l)) (sym (cut_twice c.characteristics.count c.characteristics.kept))
 
-pub by-service : {X : Type 0} (f : service-which.Which → X) (c : Central) (u : Uuid)
+pub by-service : {X : Type 0} (f : Option Service → X) (c : Central) (u : Uuid)
     → f (service.service_with u (service.known c.services)) ≡ f (service.service_with u (service.known (live c).services))
 by-service f c u = ap (λ (l : List Service). f (service.service_with u l)) (sym (cut_twice c.services.count c.services.kept))
 
-pub by-range : {X : Type 0} (f : Range → X) (c : Central) (start end from : ℕ)
+pub by-range : {X : Type 0} (f : Option (ℕ × ℕ) → X) (c : Central) (start end from : ℕ)
     → f (descriptor_range c.characteristics start end from) ≡ f (descriptor_range (live c).characteristics start end from)
 by-range f c start end from =
     ap (λ (l : List Characteristic). f (first_range from end (declared_in start end l))) (sym (cut_twice c.characteristics.count c.characteristics.kept))
@@ -90,10 +83,10 @@ module _ (at : Micros) where
       finish-blind (past h) at Ok held_at 0 (passed_on h.state w w.age)
       ∙ ap (λ (n : ℕ). cut (finish (past (cut h)) at Ok held_at 0 n)) (passed-on-blind h.state w w.age)
 
-  check-one-blind : (h : Held) (age : Age) (x : Which) → cut (check_one h at age x) ≡ cut (check_one (cut h) at age x)
+  check-one-blind : (h : Held) (age : Age) (x : Option Characteristic) → cut (check_one h at age x) ≡ cut (check_one (cut h) at age x)
   unfolding check_one
-  check-one-blind h age Nothing = finish-blind h at NotFound held_at 0 0
-  check-one-blind h age (At x) =
+  check-one-blind h age None = finish-blind h at NotFound held_at 0 0
+  check-one-blind h age (Some x) =
       pick-if cut (wait_passes h w) (wait_passes (cut h) w) (passing h at w) h (passing (cut h) at w) (cut h) same (λ e. passing-blind h w) (held-twice h)
     where
       c : Central
@@ -130,10 +123,10 @@ module _ (at : Micros) where
   unfolding discover_services
   discover-services-blind w from = request-blind (asking w 0 from) at (read_by_group_type_req from last_handle primary_service)
 
-  ask-range-blind : (w : World) (r : Range) → cut_world (ask_range w at r) ≡ cut_world (ask_range (cut_world w) at r)
+  ask-range-blind : (w : World) (r : Option (ℕ × ℕ)) → cut_world (ask_range w at r) ≡ cut_world (ask_range (cut_world w) at r)
   unfolding ask_range
-  ask-range-blind w range.Nothing = finish-world w at Ok held_at 0 0
-  ask-range-blind w (range.Is start end) = request-blind (asking w 2 start) at (find_information_req start end)
+  ask-range-blind w None = finish-world w at Ok held_at 0 0
+  ask-range-blind w (Some (start, end)) = request-blind (asking w 2 start) at (find_information_req start end)
 
   pub discover-descriptors-blind : (w : World) (svc : Service) (from : ℕ)
       → cut_world (discover_descriptors w at svc from) ≡ cut_world (discover_descriptors (cut_world w) at svc from)
@@ -189,29 +182,29 @@ module _ (at : Micros) where
             told = w.told;
           }
 
-  discover-in-blind : (w : World) (x : service-which.Which) → cut_world (discover_in w at x) ≡ cut_world (discover_in (cut_world w) at x)
+  discover-in-blind : (w : World) (x : Option Service) → cut_world (discover_in w at x) ≡ cut_world (discover_in (cut_world w) at x)
   unfolding discover_in
-  discover-in-blind w (service-variants.At svc) = discover-characteristics-blind at w svc svc.start
-  discover-in-blind w service-variants.Nothing = discover-services-blind at w 1
+  discover-in-blind w (Some svc) = discover-characteristics-blind at w svc svc.start
+  discover-in-blind w None = discover-services-blind at w 1
 
-  subscribe-at-blind : (w : World) (indicate : Bool) (x : Cccd) → cut_world (subscribe_at w at indicate x) ≡ cut_world (subscribe_at (cut_world w) at indicate x)
+  subscribe-at-blind : (w : World) (indicate : Bool) (x : Option ℕ) → cut_world (subscribe_at w at indicate x) ≡ cut_world (subscribe_at (cut_world w) at indicate x)
   unfolding subscribe_at
-  subscribe-at-blind w indicate cccd.Unknown = finish-world w at NotFound held_at 0 0
-  subscribe-at-blind w indicate (cccd.At handle) = request-blind w at (write_req handle (configuration indicate))
+  subscribe-at-blind w indicate None = finish-world w at NotFound held_at 0 0
+  subscribe-at-blind w indicate (Some handle) = request-blind w at (write_req handle (configuration indicate))
 
-  subscribe-blind : (w : World) (indicate : Bool) (x : Which) → cut_world (subscribe w at indicate x) ≡ cut_world (subscribe (cut_world w) at indicate x)
+  subscribe-blind : (w : World) (indicate : Bool) (x : Option Characteristic) → cut_world (subscribe w at indicate x) ≡ cut_world (subscribe (cut_world w) at indicate x)
   unfolding subscribe
-  subscribe-blind w indicate Nothing = finish-world w at NotFound held_at 0 0
-  subscribe-blind w indicate (At x) = subscribe-at-blind w indicate x.cccd
+  subscribe-blind w indicate None = finish-world w at NotFound held_at 0 0
+  subscribe-blind w indicate (Some x) = subscribe-at-blind w indicate x.cccd
 
   command-blind : (w : World) (handle n : ℕ) → cut_world (commanded w at handle n) ≡ cut_world (commanded (cut_world w) at handle n)
   command-blind w handle n = λ i.
       record { held = finish-blind w.held at Ok held_at 0 0 i; told = send w.told cid_att (att_pdu op_write_cmd handle w.held.store running_at n) }
 
-  write-blind : (w : World) (response : Bool) (x : Which) → cut_world (write w at response x) ≡ cut_world (write (cut_world w) at response x)
+  write-blind : (w : World) (response : Bool) (x : Option Characteristic) → cut_world (write w at response x) ≡ cut_world (write (cut_world w) at response x)
   unfolding write
-  write-blind w response Nothing = finish-world w at NotFound held_at 0 0
-  write-blind w response (At x) =
+  write-blind w response None = finish-world w at NotFound held_at 0 0
+  write-blind w response (Some x) =
       let n : ℕ = w.held.state.running.len in
       let long : World → World = λ v. on_held v (ends v.held at TooLong) in
       let asks : World → World = λ v. request v at (att_pdu op_write_req x.value_handle v.held.store running_at n) in
@@ -224,10 +217,10 @@ module _ (at : Micros) where
       (request-blind w at (att_pdu op_write_req x.value_handle w.held.store running_at n))
       (command-blind w x.value_handle n))
 
-  read-blind : (w : World) (x : Which) → cut_world (read w at x) ≡ cut_world (read (cut_world w) at x)
+  read-blind : (w : World) (x : Option Characteristic) → cut_world (read w at x) ≡ cut_world (read (cut_world w) at x)
   unfolding read
-  read-blind w Nothing = finish-world w at NotFound held_at 0 0
-  read-blind w (At x) = request-blind w at (read_req x.value_handle)
+  read-blind w None = finish-world w at NotFound held_at 0 0
+  read-blind w (Some x) = request-blind w at (read_req x.value_handle)
 
   disconnect-blind : (w : World) → cut_world (disconnect w) ≡ cut_world (disconnect (cut_world w))
   unfolding disconnect

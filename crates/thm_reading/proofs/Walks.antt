@@ -1,4 +1,5 @@
 -- The walks of discovery are blind to dead places.
+use Rattle.std.specs.Prelude.{Option, Some, None}
 use Prim.Native.Nat.{ℕ, ◌+◌}
 use mathlib.Core.Path.{◌≡◌, sym, ap, ◌∙◌}
 use mathlib.Core.Bool.{Bool}
@@ -10,8 +11,6 @@ use Rattle.time.specs.declared.Micros.{Micros}
 use Rattle.lists.specs.Taken.{taken}
 use Rattle.gatt_services.specs.Service as service
 use Rattle.gatt_services.specs.declared.Service.{Service}
-use Rattle.gatt_services.specs.declared.Which as service-which
-use Rattle.gatt_services.specs.declared.Which.TheVariants as which-service
 use Rattle.gatt_characteristics.specs.Characteristic as characteristic
 use Rattle.gatt_characteristics.specs.declared.Characteristic.{Characteristic}
 use Rattle.gatt_descriptors.specs.Named.{given_all, after, descriptors_named}
@@ -65,10 +64,10 @@ module _ (at : Micros) where
 
   -- ---- services
 
-  walk-into-blind : (w : World) (x : service-which.Which) → cut_world (walk_into w at x) ≡ cut_world (walk_into (cut_world w) at x)
+  walk-into-blind : (w : World) (x : Option Service) → cut_world (walk_into w at x) ≡ cut_world (walk_into (cut_world w) at x)
   unfolding walk_into
-  walk-into-blind w which-service.Nothing = over-blind w NotFound
-  walk-into-blind w (which-service.At svc) = discover-characteristics-blind at w svc svc.start
+  walk-into-blind w None = over-blind w NotFound
+  walk-into-blind w (Some svc) = discover-characteristics-blind at w svc svc.start
 
   pub services-done-blind : (w : World) (g : Goal) → cut_world (services_done w at g) ≡ cut_world (services_done (cut_world w) at g)
   unfolding services_done
@@ -130,11 +129,11 @@ module _ (at : Micros) where
       (via cut_world cut_world descriptors (λ x. discover-descriptors-blind at x svc svc.start) v u e)
       (via cut_world cut_world more (λ x. discover-characteristics-blind at x svc (last + 1)) v u e))
 
-  pub characteristics-heard-blind : (w : World) (n size : ℕ) (x : service-which.Which)
+  pub characteristics-heard-blind : (w : World) (n size : ℕ) (x : Option Service)
       → cut_world (characteristics_heard w at n size x) ≡ cut_world (characteristics_heard (cut_world w) at n size x)
   unfolding characteristics_heard
-  characteristics-heard-blind w n size which-service.Nothing = over-blind w NotFound
-  characteristics-heard-blind w n size (which-service.At svc) =
+  characteristics-heard-blind w n size None = over-blind w NotFound
+  characteristics-heard-blind w n size (Some svc) =
       let t = w.held.state.characteristics in
       let es : List (List ℕ) = entries_of w n size in
       let have = taken characteristic.more characteristic.declaration_of most_characteristics (characteristic.known t) svc.end es in
@@ -149,10 +148,10 @@ module _ (at : Micros) where
       (characteristic.found_by (live_characteristics t) (taken characteristic.more characteristic.declaration_of most_characteristics l svc.end es))))
       (sym (cut_twice t.count t.kept)))
 
-  pub characteristics-done-blind : (w : World) (x : service-which.Which) → cut_world (characteristics_done w at x) ≡ cut_world (characteristics_done (cut_world w) at x)
+  pub characteristics-done-blind : (w : World) (x : Option Service) → cut_world (characteristics_done w at x) ≡ cut_world (characteristics_done (cut_world w) at x)
   unfolding characteristics_done
-  characteristics-done-blind w which-service.Nothing = over-blind w NotFound
-  characteristics-done-blind w (which-service.At svc) = discover-descriptors-blind at w svc svc.start
+  characteristics-done-blind w None = over-blind w NotFound
+  characteristics-done-blind w (Some svc) = discover-descriptors-blind at w svc svc.start
 
   -- ---- descriptors
 
@@ -187,11 +186,11 @@ module _ (at : Micros) where
       (record { table = characteristic.holding (live_characteristics t) (given_all k es); «next» = after (after_range (cut_world w) svc) es })))
       (sym (cut_twice t.count t.kept))
 
-  pub descriptors-heard-blind : (w : World) (n format : ℕ) (x : service-which.Which)
+  pub descriptors-heard-blind : (w : World) (n format : ℕ) (x : Option Service)
       → cut_world (descriptors_heard w at n format x) ≡ cut_world (descriptors_heard (cut_world w) at n format x)
   unfolding descriptors_heard
-  descriptors-heard-blind w n format which-service.Nothing = over-blind w NotFound
-  descriptors-heard-blind w n format (which-service.At svc) =
+  descriptors-heard-blind w n format None = over-blind w NotFound
+  descriptors-heard-blind w n format (Some svc) =
       let t = w.held.state.characteristics in
       let es : List (List ℕ) = entries_of w n (width_of format) in
       pick-both cut_world (eqb (width_of format) 0)
@@ -200,7 +199,7 @@ module _ (at : Micros) where
       (descriptors_found (cut_world w) at svc (descriptors_named (live_characteristics t) (after_range (cut_world w) svc) es))
       (past-blind w svc) (named-blind w svc es)
 
-  pub range-done-blind : (w : World) (x : service-which.Which) → cut_world (range_done w at x) ≡ cut_world (range_done (cut_world w) at x)
+  pub range-done-blind : (w : World) (x : Option Service) → cut_world (range_done w at x) ≡ cut_world (range_done (cut_world w) at x)
   unfolding range_done
-  range-done-blind w which-service.Nothing = over-blind w NotFound
-  range-done-blind w (which-service.At svc) = past-blind w svc
+  range-done-blind w None = over-blind w NotFound
+  range-done-blind w (Some svc) = past-blind w svc

@@ -1,4 +1,5 @@
 -- What a frame that is read does to the request that is awaited.
+use Rattle.std.specs.Prelude.{Option, Some, None}
 use Prim.Native.Nat.{ℕ, ◌+◌, ◌-◌, ◌≤◌}
 use mathlib.Core.Path.{◌≡◌, refl, ap}
 use mathlib.Core.Bool.{Bool, true, false, ◌&&◌, ◌||◌}
@@ -14,8 +15,6 @@ use Rattle.att_pdu.specs.Numbers.{op_error_rsp, op_exchange_mtu_req, op_handle_v
 use Rattle.gatt_services.specs.Service as service
 use Rattle.gatt_services.specs.declared.Service.{Service}
 use Rattle.gatt_services.specs.declared.Found as services-found
-use Rattle.gatt_services.specs.declared.Which as service-which
-use Rattle.gatt_services.specs.declared.Which.TheVariants as which-service
 use Rattle.gatt_characteristics.specs.Characteristic as characteristic
 use Rattle.gatt_characteristics.specs.declared.Found as characteristics-found
 use Rattle.gatt_descriptors.specs.declared.Named.{Named}
@@ -61,10 +60,10 @@ module _ (w : World) (at : Micros) (k : Runs w) where
   asks-over : (st : StepStatus) → Asks w (over w at st)
   asks-over st = asks-ends w at st
 
-  asks-into : (x : service-which.Which) → Asks w (walk_into w at x)
+  asks-into : (x : Option Service) → Asks w (walk_into w at x)
   unfolding walk_into
-  asks-into which-service.Nothing = asks-over NotFound
-  asks-into (which-service.At svc) = asks-characteristics w at svc svc.start k
+  asks-into None = asks-over NotFound
+  asks-into (Some svc) = asks-characteristics w at svc svc.start k
 
   asks-services-done : (g : Goal) → Asks w (services_done w at g)
   unfolding services_done
@@ -79,15 +78,15 @@ module _ (w : World) (at : Micros) (k : Runs w) where
       go true = asks-descriptors w at svc from k
       go false = asks-over Ok
 
-  asks-range-done : (x : service-which.Which) → Asks w (range_done w at x)
+  asks-range-done : (x : Option Service) → Asks w (range_done w at x)
   unfolding range_done
-  asks-range-done which-service.Nothing = asks-over NotFound
-  asks-range-done (which-service.At svc) = asks-go-on svc (after_range w svc)
+  asks-range-done None = asks-over NotFound
+  asks-range-done (Some svc) = asks-go-on svc (after_range w svc)
 
-  asks-characteristics-done : (x : service-which.Which) → Asks w (characteristics_done w at x)
+  asks-characteristics-done : (x : Option Service) → Asks w (characteristics_done w at x)
   unfolding characteristics_done
-  asks-characteristics-done which-service.Nothing = asks-over NotFound
-  asks-characteristics-done (which-service.At svc) = asks-descriptors w at svc svc.start k
+  asks-characteristics-done None = asks-over NotFound
+  asks-characteristics-done (Some svc) = asks-descriptors w at svc svc.start k
 
   asks-absent : (a : Asked) → Asks w (absent w at a)
   unfolding absent
@@ -144,10 +143,10 @@ asks-characteristics-found w at svc f k =
     go q false true = asks-descriptors v at svc svc.start q
     go q false false = asks-characteristics v at svc (f.last + 1) q
 
-asks-characteristics-heard : (w : World) (at : Micros) (n size : ℕ) (x : service-which.Which) → Runs w → Asks w (characteristics_heard w at n size x)
+asks-characteristics-heard : (w : World) (at : Micros) (n size : ℕ) (x : Option Service) → Runs w → Asks w (characteristics_heard w at n size x)
 unfolding characteristics_heard
-asks-characteristics-heard w at n size which-service.Nothing k = asks-over w at k NotFound
-asks-characteristics-heard w at n size (which-service.At svc) k = go (ltb size 7)
+asks-characteristics-heard w at n size None k = asks-over w at k NotFound
+asks-characteristics-heard w at n size (Some svc) k = go (ltb size 7)
   where
     go : (b : Bool)
         → Asks w (pick b (discover_descriptors w at svc svc.start) (characteristics_found w at svc (characteristic.characteristics_taken w.held.state.characteristics svc.end (entries_of w n size))))
@@ -159,10 +158,10 @@ asks-descriptors-found w at svc x k =
     after w (with_characteristics w.held.state x.table) (descriptors_found w at svc x) (mild refl refl refl refl)
     (asks-go-on (become w (with_characteristics w.held.state x.table)) at k svc x.«next»)
 
-asks-descriptors-heard : (w : World) (at : Micros) (n format : ℕ) (x : service-which.Which) → Runs w → Asks w (descriptors_heard w at n format x)
+asks-descriptors-heard : (w : World) (at : Micros) (n format : ℕ) (x : Option Service) → Runs w → Asks w (descriptors_heard w at n format x)
 unfolding descriptors_heard
-asks-descriptors-heard w at n format which-service.Nothing k = asks-over w at k NotFound
-asks-descriptors-heard w at n format (which-service.At svc) k = go (eqb (width_of format) 0)
+asks-descriptors-heard w at n format None k = asks-over w at k NotFound
+asks-descriptors-heard w at n format (Some svc) k = go (eqb (width_of format) 0)
   where
     go : (b : Bool)
         → Asks w (pick b (go_on w at svc (after_range w svc)) (descriptors_found w at svc (descriptors_named w.held.state.characteristics (after_range w svc) (entries_of w n (width_of format)))))

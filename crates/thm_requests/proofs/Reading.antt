@@ -1,4 +1,5 @@
 -- How a Read can end: by the value of a read response, or not well.
+use Rattle.std.specs.Prelude.{Option, Some, None}
 use Prim.Native.Nat.{ℕ, ◌+◌, ◌-◌, ◌≤◌}
 use mathlib.Core.Path.{◌≡◌, refl, sym, ap, ◌∙◌, subst}
 use mathlib.Core.Bool.{Bool, true, false, ◌&&◌}
@@ -31,8 +32,6 @@ use Rattle.state.specs.declared.Step.{Step}
 use Rattle.state.specs.declared.Step.TheVariants.{Read}
 use Rattle.state.specs.declared.StepResult.{StepResult}
 use Rattle.state.specs.declared.StepStatus.TheVariants.{NotConnected, BearerClosed}
-use Rattle.gatt_characteristics.specs.declared.Which as which
-use Rattle.gatt_characteristics.specs.declared.Which.TheVariants as which-variants
 use Rattle.lists.specs.Queue.{pushed}
 use Rattle.lists.specs.Blocks.{Valued}
 use Rattle.script_rules.specs.Wait.{awaited, check_for}
@@ -40,6 +39,7 @@ use Rattle.script_rules.specs.Start.{ends, start_alone, start_unlinked, start_li
 use Rattle.thm_trail.specs.Log.{kept_results}
 use Rattle.thm_accounting.proofs.Gives.{Whole, apart, whole_same, finish-pushes}
 use Rattle.thm_accounting.proofs.Channels as books
+use Rattle.gatt_characteristics.specs.declared.Characteristic.{Characteristic}
 
 -- the result of a step that ends so
 abbrev pub result_of : Held → Micros → StepStatus → ℕ → ℕ → Valued StepResult
@@ -55,10 +55,10 @@ poorly-ends h at st bad w a = ended (result_of h at st held_at 0) refl bad (fini
 
 -- ---- a Read that begins
 
-poorly-read : (w : World) (at : Micros) (x : which.Which) → Whole w.held → w.held.state.running.active ≡ true → Poorly w.held (read w at x).held
+poorly-read : (w : World) (at : Micros) (x : Option Characteristic) → Whole w.held → w.held.state.running.active ≡ true → Poorly w.held (read w at x).held
 unfolding read request
-poorly-read w at which-variants.Nothing k a = poorly-ends w.held at NotFound (λ e. let z : ◌≡◌ {A = ℕ} 0 1 = cc in omega arith) k a
-poorly-read w at (which-variants.At x) k a = unended refl
+poorly-read w at None k a = poorly-ends w.held at NotFound (λ e. let z : ◌≡◌ {A = ℕ} 0 1 = cc in omega arith) k a
+poorly-read w at (Some x) k a = unended refl
 
 pub poorly-start : (w : World) (at : Micros) (u : Uuid) → w.held.state.running.step ≡ Read u → Whole w.held → w.held.state.running.active ≡ true
     → Poorly w.held (start w at).held

@@ -1,4 +1,5 @@
 -- What a step that begins does to the request that is awaited.
+use Rattle.std.specs.Prelude.{Option, Some, None}
 use Prim.Native.Nat.{ℕ, ◌+◌, ◌≤◌, max}
 use mathlib.Core.Path.{◌≡◌, refl}
 use mathlib.Core.Bool.{Bool, true, false, ◌||◌, false≢true}
@@ -12,14 +13,6 @@ use Rattle.time.specs.declared.Micros.{Micros}
 use Rattle.notifications.specs.declared.Age.{Age}
 use Rattle.notifications.specs.declared.Wanted.{Wanted}
 use Rattle.gatt_services.specs.declared.Service.{Service}
-use Rattle.gatt_services.specs.declared.Which as service-which
-use Rattle.gatt_services.specs.declared.Which.TheVariants as service-variants
-use Rattle.gatt_characteristics.specs.declared.Cccd.{Cccd}
-use Rattle.gatt_characteristics.specs.declared.Cccd.TheVariants as cccd
-use Rattle.gatt_characteristics.specs.declared.Which.{Which}
-use Rattle.gatt_characteristics.specs.declared.Which.TheVariants.{At, Nothing}
-use Rattle.gatt_descriptors.specs.declared.Range.{Range}
-use Rattle.gatt_descriptors.specs.declared.Range.TheVariants as range
 use Rattle.gatt_descriptors.specs.Range.{descriptor_range}
 use Rattle.state.specs.Central.{with_counters, with_bearer}
 use Rattle.state.specs.declared.Step.{Step}
@@ -52,6 +45,7 @@ use borrow.Author.Tests.{ltb-false}
 use Rattle.bytes_base.proofs.ByteLaws.{length-le_bytes}
 use Rattle.att_pdu.proofs.PduLaws.{length-exchange_mtu_req, length-find_information_req, length-read_by_type_req, length-read_by_group_type_req, length-read_req}
 use Rattle.thm_requests.proofs.Asks.{itself, speaks, Asks, calm, none, hushed, asks_none, mild, asks-then, asks-finish, asks-request, asks-asking, not-awaited}
+use Rattle.gatt_characteristics.specs.declared.Characteristic.{Characteristic}
 
 pub asks-ends : (w : World) (at : Micros) (st : StepStatus) → Asks w (on_held w (ends w.held at st))
 asks-ends w at st = asks-finish w at st held_at 0 0
@@ -62,10 +56,10 @@ pub asks-services : (w : World) (at : Micros) (from : ℕ) → w.held.state.runn
 unfolding discover_services
 asks-services w at from a = asks-asking w 0 from at _ a (omega (arith, length-read_by_group_type_req from last_handle primary_service)) refl
 
-asks-range : (w : World) (at : Micros) (r : Range) → w.held.state.running.active ≡ true → Asks w (ask_range w at r)
+asks-range : (w : World) (at : Micros) (r : Option (ℕ × ℕ)) → w.held.state.running.active ≡ true → Asks w (ask_range w at r)
 unfolding ask_range
-asks-range w at range.Nothing a = asks-ends w at Ok
-asks-range w at (range.Is start end) a = asks-asking w 2 start at _ a (omega (arith, length-find_information_req start end)) refl
+asks-range w at None a = asks-ends w at Ok
+asks-range w at (Some (start, end)) a = asks-asking w 2 start at _ a (omega (arith, length-find_information_req start end)) refl
 
 pub asks-descriptors : (w : World) (at : Micros) (svc : Service) (from : ℕ) → w.held.state.running.active ≡ true → Asks w (discover_descriptors w at svc from)
 unfolding discover_descriptors
@@ -86,10 +80,10 @@ asks-passing w at x =
     let g = on_state w.held (with_counters w.held.state (passed w.held.state.counters)) in
     asks-then (mild {w = w} {g = g} refl refl refl refl) (asks-finish (on_held w g) at Ok held_at 0 (passed_on w.held.state x x.age))
 
-asks-one : (w : World) (at : Micros) (age : Age) (x : Which) → Asks w (on_held w (check_one w.held at age x))
+asks-one : (w : World) (at : Micros) (age : Age) (x : Option Characteristic) → Asks w (on_held w (check_one w.held at age x))
 unfolding check_one
-asks-one w at age Nothing = asks-finish w at _ held_at 0 0
-asks-one w at age (At x) = let y = wanted w.held.state at x.value_handle age in go y (wait_passes w.held y)
+asks-one w at age None = asks-finish w at _ held_at 0 0
+asks-one w at age (Some x) = let y = wanted w.held.state at x.value_handle age in go y (wait_passes w.held y)
   where
     go : (y : Wanted) (b : Bool) → Asks w (on_held w (pick b (passing w.held at y) w.held))
     go y true = asks-passing w at y
@@ -127,20 +121,20 @@ asks-alone w at alone.Done = asks-ends w at _
 asks-alone w at alone.NeedsLink = asks-ends w at _
 
 module _ (w : World) (at : Micros) (a : w.held.state.running.active ≡ true) (hi : w.held.state.bearer.link.mtu ≤ most_mtu) where
-  asks-in : (x : service-which.Which) → Asks w (discover_in w at x)
+  asks-in : (x : Option Service) → Asks w (discover_in w at x)
   unfolding discover_in
-  asks-in (service-variants.At svc) = asks-characteristics w at svc svc.start a
-  asks-in service-variants.Nothing = asks-services w at 1 a
+  asks-in (Some svc) = asks-characteristics w at svc svc.start a
+  asks-in None = asks-services w at 1 a
 
-  asks-subscribe-at : (indicate : Bool) (x : Cccd) → Asks w (subscribe_at w at indicate x)
+  asks-subscribe-at : (indicate : Bool) (x : Option ℕ) → Asks w (subscribe_at w at indicate x)
   unfolding subscribe_at
-  asks-subscribe-at indicate cccd.Unknown = asks-ends w at _
-  asks-subscribe-at indicate (cccd.At handle) = asks-request w at _ a (configured handle indicate) refl
+  asks-subscribe-at indicate None = asks-ends w at _
+  asks-subscribe-at indicate (Some handle) = asks-request w at _ a (configured handle indicate) refl
 
-  asks-subscribe : (indicate : Bool) (x : Which) → Asks w (subscribe w at indicate x)
+  asks-subscribe : (indicate : Bool) (x : Option Characteristic) → Asks w (subscribe w at indicate x)
   unfolding subscribe
-  asks-subscribe indicate Nothing = asks-ends w at _
-  asks-subscribe indicate (At x) = asks-subscribe-at indicate x.cccd
+  asks-subscribe indicate None = asks-ends w at _
+  asks-subscribe indicate (Some x) = asks-subscribe-at indicate x.cccd
 
   -- a command is no request, and its step ends
   asks-commanded : (handle n : ℕ) → n + 3 ≤ most_mtu → Asks w (commanded w at handle n)
@@ -154,10 +148,10 @@ module _ (w : World) (at : Micros) (a : w.held.state.running.active ≡ true) (h
           (speaks cid_att pdu (omega arith) (omega (arith, k, value-pdu op_write_cmd handle w.held.store running_at n)) refl (itself (send w.told cid_att pdu)))
       go false e = absurd (false≢true e)
 
-  asks_write : (response : Bool) (x : Which) → Asks w (write w at response x)
+  asks_write : (response : Bool) (x : Option Characteristic) → Asks w (write w at response x)
   unfolding write
-  asks_write response Nothing = asks-ends w at _
-  asks_write response (At x) = go (ltb w.held.state.bearer.link.mtu (w.held.state.running.len + 3)) refl response
+  asks_write response None = asks-ends w at _
+  asks_write response (Some x) = go (ltb w.held.state.bearer.link.mtu (w.held.state.running.len + 3)) refl response
     where
       n : ℕ
       n = w.held.state.running.len
@@ -171,10 +165,10 @@ module _ (w : World) (at : Micros) (a : w.held.state.running.active ≡ true) (h
           (omega (arith, hi, ltb-false w.held.state.bearer.link.mtu (n + 3) e, value-pdu op_write_req x.value_handle w.held.store running_at n)) refl
       go false e false = asks-commanded x.value_handle n (omega (arith, hi, ltb-false w.held.state.bearer.link.mtu (n + 3) e))
 
-  asks_read : (x : Which) → Asks w (read w at x)
+  asks_read : (x : Option Characteristic) → Asks w (read w at x)
   unfolding read
-  asks_read Nothing = asks-ends w at _
-  asks_read (At x) = asks-request w at _ a (omega (arith, length-read_req x.value_handle)) refl
+  asks_read None = asks-ends w at _
+  asks_read (Some x) = asks-request w at _ a (omega (arith, length-read_req x.value_handle)) refl
 
   asks-disconnect : Asks w (disconnect w)
   unfolding disconnect

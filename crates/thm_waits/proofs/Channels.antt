@@ -1,4 +1,5 @@
 -- What a frame that is read leads to: a notification is kept first.
+use Rattle.std.specs.Prelude.{Option, Some, None}
 use Prim.Native.Nat.{ℕ, ◌+◌, ◌-◌, ◌≤◌}
 use mathlib.Core.Path.{◌≡◌, refl, sym, ap, ◌∙◌, subst}
 use mathlib.Core.Bool.{Bool, true, false, ◌&&◌}
@@ -17,8 +18,6 @@ use Rattle.att_pdu.specs.Numbers.{op_error_rsp, op_exchange_mtu_req, op_handle_v
 use Rattle.gatt_services.specs.Service as service
 use Rattle.gatt_services.specs.declared.Service.{Service}
 use Rattle.gatt_services.specs.declared.Found as services-found
-use Rattle.gatt_services.specs.declared.Which as service-which
-use Rattle.gatt_services.specs.declared.Which.TheVariants as which-service
 use Rattle.gatt_characteristics.specs.Characteristic as characteristic
 use Rattle.gatt_characteristics.specs.declared.Found as characteristics-found
 use Rattle.gatt_descriptors.specs.declared.Named.{Named}
@@ -51,10 +50,10 @@ module _ (w : World) (at : Micros) (k : Plain w.held) where
   leads-over : (st : StepStatus) → Leads at w.held (over w at st).held
   leads-over st = leads-ends w.held at st k
 
-  leads-into : (x : service-which.Which) → Leads at w.held (walk_into w at x).held
+  leads-into : (x : Option Service) → Leads at w.held (walk_into w at x).held
   unfolding walk_into
-  leads-into which-service.Nothing = leads-over NotFound
-  leads-into (which-service.At svc) = leads-characteristics w at svc svc.start k
+  leads-into None = leads-over NotFound
+  leads-into (Some svc) = leads-characteristics w at svc svc.start k
 
   leads-services-done : (g : Goal) → Leads at w.held (services_done w at g).held
   unfolding services_done
@@ -69,15 +68,15 @@ module _ (w : World) (at : Micros) (k : Plain w.held) where
       go true = leads-descriptors w at svc from k
       go false = leads-over Ok
 
-  leads-range-done : (x : service-which.Which) → Leads at w.held (range_done w at x).held
+  leads-range-done : (x : Option Service) → Leads at w.held (range_done w at x).held
   unfolding range_done
-  leads-range-done which-service.Nothing = leads-over NotFound
-  leads-range-done (which-service.At svc) = leads-go-on svc (after_range w svc)
+  leads-range-done None = leads-over NotFound
+  leads-range-done (Some svc) = leads-go-on svc (after_range w svc)
 
-  leads-characteristics-done : (x : service-which.Which) → Leads at w.held (characteristics_done w at x).held
+  leads-characteristics-done : (x : Option Service) → Leads at w.held (characteristics_done w at x).held
   unfolding characteristics_done
-  leads-characteristics-done which-service.Nothing = leads-over NotFound
-  leads-characteristics-done (which-service.At svc) = leads-descriptors w at svc svc.start k
+  leads-characteristics-done None = leads-over NotFound
+  leads-characteristics-done (Some svc) = leads-descriptors w at svc svc.start k
 
   leads-absent : (a : Asked) → Leads at w.held (absent w at a).held
   unfolding absent
@@ -136,10 +135,10 @@ leads-characteristics-found w at svc f k =
     go q false true = leads-descriptors v at svc svc.start q
     go q false false = leads-characteristics v at svc (f.last + 1) q
 
-leads-characteristics-heard : (w : World) (at : Micros) (n size : ℕ) (x : service-which.Which) → Plain w.held → Leads at w.held (characteristics_heard w at n size x).held
+leads-characteristics-heard : (w : World) (at : Micros) (n size : ℕ) (x : Option Service) → Plain w.held → Leads at w.held (characteristics_heard w at n size x).held
 unfolding characteristics_heard
-leads-characteristics-heard w at n size which-service.Nothing k = leads-over w at k NotFound
-leads-characteristics-heard w at n size (which-service.At svc) k = go (ltb size 7)
+leads-characteristics-heard w at n size None k = leads-over w at k NotFound
+leads-characteristics-heard w at n size (Some svc) k = go (ltb size 7)
   where
     go : (b : Bool)
         → Leads at w.held
@@ -153,10 +152,10 @@ leads-descriptors-found w at svc x k =
     after w (with_characteristics w.held.state x.table) (descriptors_found w at svc x) (other refl refl refl refl refl refl refl refl refl)
     (leads-go-on (become w (with_characteristics w.held.state x.table)) at k svc x.«next»)
 
-leads-descriptors-heard : (w : World) (at : Micros) (n format : ℕ) (x : service-which.Which) → Plain w.held → Leads at w.held (descriptors_heard w at n format x).held
+leads-descriptors-heard : (w : World) (at : Micros) (n format : ℕ) (x : Option Service) → Plain w.held → Leads at w.held (descriptors_heard w at n format x).held
 unfolding descriptors_heard
-leads-descriptors-heard w at n format which-service.Nothing k = leads-over w at k NotFound
-leads-descriptors-heard w at n format (which-service.At svc) k = go (eqb (width_of format) 0)
+leads-descriptors-heard w at n format None k = leads-over w at k NotFound
+leads-descriptors-heard w at n format (Some svc) k = go (eqb (width_of format) 0)
   where
     go : (b : Bool)
         → Leads at w.held

@@ -1,5 +1,6 @@
 -- What a step that begins, or a frame that is read, leads to, as far as waits go: nothing; the running step's end, with a result that names
 -- nothing; or a wait that passes.
+use Rattle.std.specs.Prelude.{Some}
 use Prim.Native.Nat.{ℕ, ◌+◌, ◌≤◌}
 use mathlib.Core.Path.{◌≡◌, refl, sym, ap, ◌∙◌}
 use mathlib.Core.Bool.{true, false, false≢true}
@@ -10,7 +11,6 @@ use Rattle.time.specs.declared.Millis.{Millis}
 use Rattle.uuid_value.specs.declared.Uuid.{Uuid}
 use Rattle.gatt_characteristics.specs.Characteristic.{known, characteristic_with}
 use Rattle.gatt_characteristics.specs.declared.Characteristic.{Characteristic}
-use Rattle.gatt_characteristics.specs.declared.Which.TheVariants.{At}
 use Rattle.notifications.specs.declared.Age.{Age}
 use Rattle.state.specs.Central.{Central}
 use Rattle.state.specs.declared.Step.TheVariants.{WaitNotification}
@@ -70,7 +70,7 @@ pub data Leads (at : Micros) (h g : Held) : Type 0 where
   ends_so : (u : Held) (st : StepStatus) (from n : ℕ) → Other h u → from + n ≤ store_size → n ≤ result_size
       → (is_wait_notification h.state.running.step ≡ true → st ≡ Ok → ⊥) → g ≡ finish u at st from n 0 → Leads at h g
   -- a wait looks at the notifications of its characteristic, and passes
-  passes-so : (u : Held) (c : Uuid) (ms : Millis) (age : Age) (x : Characteristic) → Other h u → characteristic_with c (known u.state.characteristics) ≡ At x
+  passes-so : (u : Held) (c : Uuid) (ms : Millis) (age : Age) (x : Characteristic) → Other h u → characteristic_with c (known u.state.characteristics) ≡ Some x
       → h.state.running.step ≡ WaitNotification c ms age → h.state.running.active ≡ true
       → wait_passes u (wanted u.state at x.value_handle age) ≡ true → g ≡ passing u at (wanted u.state at x.value_handle age) → Leads at h g
 

@@ -1,4 +1,5 @@
 -- What a step that begins leads to.
+use Rattle.std.specs.Prelude.{Option, Some, None}
 use Prim.Native.Nat.{ℕ, ◌+◌}
 use mathlib.Core.Path.{◌≡◌, refl, sym, ap, ◌∙◌, subst}
 use mathlib.Core.Bool.{Bool, true, false, ◌||◌, false≢true}
@@ -11,15 +12,7 @@ use Rattle.time.specs.declared.Micros.{Micros}
 use Rattle.time.specs.declared.Millis.{Millis}
 use Rattle.uuid_value.specs.declared.Uuid.{Uuid}
 use Rattle.gatt_services.specs.declared.Service.{Service}
-use Rattle.gatt_services.specs.declared.Which as service-which
-use Rattle.gatt_services.specs.declared.Which.TheVariants as service-variants
 use Rattle.gatt_characteristics.specs.Characteristic.{known, characteristic_with}
-use Rattle.gatt_characteristics.specs.declared.Cccd.{Cccd}
-use Rattle.gatt_characteristics.specs.declared.Cccd.TheVariants as cccd
-use Rattle.gatt_characteristics.specs.declared.Which.{Which}
-use Rattle.gatt_characteristics.specs.declared.Which.TheVariants.{At, Nothing}
-use Rattle.gatt_descriptors.specs.declared.Range.{Range}
-use Rattle.gatt_descriptors.specs.declared.Range.TheVariants as range
 use Rattle.gatt_descriptors.specs.Range.{descriptor_range}
 use Rattle.notifications.specs.declared.Age.{Age}
 use Rattle.notifications.specs.declared.Wanted.{Wanted}
@@ -42,6 +35,7 @@ use Rattle.script_rules.specs.Wait.{wanted, wait_passes, passing, check_one, awa
 use Rattle.script_rules.specs.Start.{ends, waits_for, unlinked_step, start_alone, start_unlinked, forgotten, discover_in, subscribe_at, subscribe, commanded, write, read, terminated, asks_to, disconnect, start_linked, barred, start_on, start}
 use Rattle.thm_waits.specs.Waits.{is_wait_notification}
 use Rattle.thm_waits.proofs.Leads.{other_none, other, Plain, Leads, stays, passes-so, leads-none, leads-then, leads-ends, leads-badly}
+use Rattle.gatt_characteristics.specs.declared.Characteristic.{Characteristic}
 
 pub leads-request : (w : World) (at : Micros) (pdu : List ℕ) → Plain w.held → Leads at w.held (request w at pdu).held
 unfolding request
@@ -56,10 +50,10 @@ pub leads-services : (w : World) (at : Micros) (from : ℕ) → Plain w.held →
 unfolding discover_services
 leads-services w at from k = leads-asking w 0 from at _ k
 
-leads-range : (w : World) (at : Micros) (r : Range) → Plain w.held → Leads at w.held (ask_range w at r).held
+leads-range : (w : World) (at : Micros) (r : Option (ℕ × ℕ)) → Plain w.held → Leads at w.held (ask_range w at r).held
 unfolding ask_range
-leads-range w at range.Nothing k = leads-ends w.held at Ok k
-leads-range w at (range.Is start end) k = leads-asking w 2 start at _ k
+leads-range w at None k = leads-ends w.held at Ok k
+leads-range w at (Some (start, end)) k = leads-asking w 2 start at _ k
 
 pub leads-descriptors : (w : World) (at : Micros) (svc : Service) (from : ℕ) → Plain w.held → Leads at w.held (discover_descriptors w at svc from).held
 unfolding discover_descriptors
@@ -81,25 +75,25 @@ leads-alone h at (alone.Runs ms) k = stays (other refl refl refl refl refl refl 
 leads-alone h at alone.Done k = leads-ends h at _ k
 leads-alone h at alone.NeedsLink k = leads-ends h at _ k
 
-leads-in : (w : World) (at : Micros) (x : service-which.Which) → Plain w.held → Leads at w.held (discover_in w at x).held
+leads-in : (w : World) (at : Micros) (x : Option Service) → Plain w.held → Leads at w.held (discover_in w at x).held
 unfolding discover_in
-leads-in w at (service-variants.At svc) k = leads-characteristics w at svc svc.start k
-leads-in w at service-variants.Nothing k = leads-services w at 1 k
+leads-in w at (Some svc) k = leads-characteristics w at svc svc.start k
+leads-in w at None k = leads-services w at 1 k
 
-leads-subscribe-at : (w : World) (at : Micros) (indicate : Bool) (x : Cccd) → Plain w.held → Leads at w.held (subscribe_at w at indicate x).held
+leads-subscribe-at : (w : World) (at : Micros) (indicate : Bool) (x : Option ℕ) → Plain w.held → Leads at w.held (subscribe_at w at indicate x).held
 unfolding subscribe_at
-leads-subscribe-at w at indicate cccd.Unknown k = leads-ends w.held at _ k
-leads-subscribe-at w at indicate (cccd.At handle) k = leads-request w at _ k
+leads-subscribe-at w at indicate None k = leads-ends w.held at _ k
+leads-subscribe-at w at indicate (Some handle) k = leads-request w at _ k
 
-leads-subscribe : (w : World) (at : Micros) (indicate : Bool) (x : Which) → Plain w.held → Leads at w.held (subscribe w at indicate x).held
+leads-subscribe : (w : World) (at : Micros) (indicate : Bool) (x : Option Characteristic) → Plain w.held → Leads at w.held (subscribe w at indicate x).held
 unfolding subscribe
-leads-subscribe w at indicate Nothing k = leads-ends w.held at _ k
-leads-subscribe w at indicate (At x) k = leads-subscribe-at w at indicate x.cccd k
+leads-subscribe w at indicate None k = leads-ends w.held at _ k
+leads-subscribe w at indicate (Some x) k = leads-subscribe-at w at indicate x.cccd k
 
-leads-write : (w : World) (at : Micros) (response : Bool) (x : Which) → Plain w.held → Leads at w.held (write w at response x).held
+leads-write : (w : World) (at : Micros) (response : Bool) (x : Option Characteristic) → Plain w.held → Leads at w.held (write w at response x).held
 unfolding write
-leads-write w at response Nothing k = leads-ends w.held at _ k
-leads-write w at response (At x) k = go (ltb w.held.state.bearer.link.mtu (w.held.state.running.len + 3)) response
+leads-write w at response None k = leads-ends w.held at _ k
+leads-write w at response (Some x) k = go (ltb w.held.state.bearer.link.mtu (w.held.state.running.len + 3)) response
   where
     n : ℕ
     n = w.held.state.running.len
@@ -111,10 +105,10 @@ leads-write w at response (At x) k = go (ltb w.held.state.bearer.link.mtu (w.hel
     go false true = leads-request w at _ k
     go false false = leads-ends w.held at Ok k
 
-leads-read : (w : World) (at : Micros) (x : Which) → Plain w.held → Leads at w.held (read w at x).held
+leads-read : (w : World) (at : Micros) (x : Option Characteristic) → Plain w.held → Leads at w.held (read w at x).held
 unfolding read
-leads-read w at Nothing k = leads-ends w.held at _ k
-leads-read w at (At x) k = leads-request w at _ k
+leads-read w at None k = leads-ends w.held at _ k
+leads-read w at (Some x) k = leads-request w at _ k
 
 leads-disconnect : {at : Micros} (w : World) → Plain w.held → Leads at w.held (disconnect w).held
 unfolding disconnect
@@ -159,12 +153,12 @@ leads-start w at k = go w.held.state.bearer.present (barred w.held.state.options
 
 -- ---- a WaitNotification
 
-leads-which : (h : Held) (at : Micros) (c : Uuid) (ms : Millis) (age : Age) (x : Which) → characteristic_with c (known h.state.characteristics) ≡ x
+leads-which : (h : Held) (at : Micros) (c : Uuid) (ms : Millis) (age : Age) (x : Option Characteristic) → characteristic_with c (known h.state.characteristics) ≡ x
     → h.state.running.step ≡ WaitNotification c ms age → h.state.running.active ≡ true
     → Leads at h (check_one h at age x)
 unfolding check_one
-leads-which h at c ms age Nothing k e on = leads-badly h at NotFound (λ f. let z : ◌≡◌ {A = ℕ} 0 1 = cc in omega arith)
-leads-which h at c ms age (At x) k e on = go (wait_passes h w) refl
+leads-which h at c ms age None k e on = leads-badly h at NotFound (λ f. let z : ◌≡◌ {A = ℕ} 0 1 = cc in omega arith)
+leads-which h at c ms age (Some x) k e on = go (wait_passes h w) refl
   where
     w : Wanted
     w = wanted h.state at x.value_handle age

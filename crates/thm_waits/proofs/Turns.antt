@@ -1,4 +1,5 @@
 -- What a turn of the script gives, and what it leaves of all that waits go by.
+use Rattle.std.specs.Prelude.{Some}
 use Prim.Native.Nat.{ℕ, zero, suc, ◌+◌, ◌-◌, ◌≤◌, min, max}
 use mathlib.Core.Path.{◌≡◌, refl, sym, ap, ap₂, ◌∙◌, subst}
 use mathlib.Core.Bool.{Bool, true, false, ◌&&◌, ◌||◌, false≢true}
@@ -18,7 +19,6 @@ use Rattle.time.specs.Clock.{latest}
 use Rattle.uuid_value.specs.declared.Uuid.{Uuid}
 use Rattle.gatt_characteristics.specs.Characteristic.{known, characteristic_with}
 use Rattle.gatt_characteristics.specs.declared.Characteristic.{Characteristic}
-use Rattle.gatt_characteristics.specs.declared.Which.TheVariants.{At}
 use Rattle.notifications.specs.declared.Notification.{Notification}
 use Rattle.notifications.specs.declared.Wanted.{Wanted}
 use Rattle.notifications.specs.declared.Age.{Age}
@@ -57,7 +57,7 @@ pub record Counted (W : Held → Type 0) (u : Uuid) (F : ℕ) (L : List (Valued 
   pub world : Held
   pub through : W world
   pub characteristic : Characteristic
-  pub known-then : characteristic_with u (known world.state.characteristics) ≡ At characteristic
+  pub known-then : characteristic_with u (known world.state.characteristics) ≡ Some characteristic
   pub before : List Numbered
   pub newest : Numbered
   pub some :
@@ -123,7 +123,7 @@ module _ {F : ℕ} {L : List (Valued Notification)} {N : ℕ} {P : Bool} {b : Bo
       let n : drop first L ≡ [] = drop_of_length-le L {i = first} (omega (arith, z)) in
       false≢true (sym (looked w ∙ ap (λ (t : List (Valued Notification)). code.passes w t needle) n ∙ none_found w needle) ∙ yes')
 
-  counted-so : (W : Held → Type 0) (at : Micros) → at.0 ≤ latest → (y : Uuid) (z : Characteristic) (g : Held) → W g → characteristic_with y (known g.state.characteristics) ≡ At z
+  counted-so : (W : Held → Type 0) (at : Micros) → at.0 ≤ latest → (y : Uuid) (z : Characteristic) (g : Held) → W g → characteristic_with y (known g.state.characteristics) ≡ Some z
       → (age : Millis) (x : StepResult) → b ≡ false → wait_passes u (wanted c at z.value_handle (Within age)) ≡ true
       → x.heard ≡ passed_on c (wanted c at z.value_handle (Within age)) (Within age) → Counted W y F L N P at age needle x
   counted-so W at time y z g through k-then age x f yes' h =
@@ -327,7 +327,7 @@ module _ (W : Held → Type 0) {F : ℕ} {L : List (Valued Notification)} {N : �
             missed false z e f = ap (λ (i : Bool). i && is_wait_notification (get_or q u.state.running.index no_queued).step) e
         go false off = subst (Turned W F L N P b at l q vs h) (sym (idle-finish u at st from n 0 off)) (turned-stays o)
 
-  module _ (u : Held) (c : Uuid) (ms : Millis) (age : Age) (z : Characteristic) (o : Other h u) (found-so : characteristic_with c (known u.state.characteristics) ≡ At z)
+  module _ (u : Held) (c : Uuid) (ms : Millis) (age : Age) (z : Characteristic) (o : Other h u) (found-so : characteristic_with c (known u.state.characteristics) ≡ Some z)
       (is : h.state.running.step ≡ WaitNotification c ms age) (was-on : h.state.running.active ≡ true)
       (passes : wait_passes u (wanted u.state at z.value_handle age) ≡ true) (through : W (passing u at (wanted u.state at z.value_handle age))) where
     abbrev w : Wanted
@@ -363,7 +363,7 @@ module _ (W : Held → Type 0) {F : ℕ} {L : List (Valued Notification)} {N : �
         its : c ≡ c'
         its = let z : WaitNotification c ms age ≡ WaitNotification c' ms' (Within age') = sym the_step ∙ s in cc
 
-        known_so : characteristic_with c' (known (passing u at w).state.characteristics) ≡ At z
+        known_so : characteristic_with c' (known (passing u at w).state.characteristics) ≡ Some z
         known_so =
             ap (λ t. characteristic_with c' (known t)) (known-finish v at Ok held_at 0 heard)
             ∙ ap (λ (i : Uuid). characteristic_with i (known u.state.characteristics)) (sym its)

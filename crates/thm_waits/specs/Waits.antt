@@ -1,5 +1,5 @@
 -- What an aged wait ends Ok on (02, One): of everything heard, what counts; the newest of it, which its result names; what it contains.
-use Rattle.std.specs.Prelude.{ℕ, ◌+◌, ◌-◌, ◌*◌, max, ◌≡◌, Bool, true, false, ◌&&◌, ◌||◌, List, [], ◌∷◌, ◌++◌, length, take, drop, get_or, eqb, leb}
+use Rattle.std.specs.Prelude.{ℕ, ◌+◌, ◌-◌, ◌*◌, max, ◌≡◌, Bool, true, false, ◌&&◌, ◌||◌, List, [], ◌∷◌, ◌++◌, length, take, drop, get_or, eqb, leb, Some}
 use Rattle.bytes_base.specs.Choice.{pick}
 use Rattle.lists.specs.Blocks.{Valued, bytes}
 use Rattle.state_places.specs.Sizes.{most_notifications, most_steps}
@@ -8,7 +8,6 @@ use Rattle.time.specs.declared.Millis.{Millis}
 use Rattle.uuid_value.specs.declared.Uuid.{Uuid}
 use Rattle.gatt_characteristics.specs.Characteristic.{known, characteristic_with}
 use Rattle.gatt_characteristics.specs.declared.Characteristic.{Characteristic}
-use Rattle.gatt_characteristics.specs.declared.Which.TheVariants.{At}
 use Rattle.notifications.specs.declared.Notification.{Notification}
 use Rattle.notifications.specs.declared.Age.TheVariants.{Within}
 use Rattle.state.specs.Fresh.{no_queued}
@@ -131,7 +130,7 @@ pub record Passed (h : Held) (c : Call) (b : Brought) (from : ℕ) (u : Uuid) (a
   -- its characteristic, as known in a world that the call passes through, so many hops in
   pub moment : ℕ
   pub characteristic : Characteristic
-  pub known-then : characteristic_with u (known (final (begins h c) (take moment (goes h c))).held.state.characteristics) ≡ At characteristic
+  pub known-then : characteristic_with u (known (final (begins h c) (take moment (goes h c))).held.state.characteristics) ≡ Some characteristic
   -- one or more count, and the result names the newest
   pub before : List Numbered
   pub newest : Numbered

@@ -1,4 +1,5 @@
 -- What a frame that is read sends: nothing, or one frame.
+use Rattle.std.specs.Prelude.{Option, Some, None}
 use Prim.Native.Nat.{ℕ, ◌+◌, ◌≤◌}
 use mathlib.Core.Path.{◌≡◌, refl, ◌∙◌}
 use mathlib.Core.Bool.{Bool, true, false, ◌&&◌}
@@ -19,8 +20,6 @@ use Rattle.l2cap_signaling.specs.declared.Update as update
 use Rattle.l2cap_signaling.specs.declared.Update.TheVariants as update-variants
 use Rattle.gatt_services.specs.declared.Service.{Service}
 use Rattle.gatt_services.specs.declared.Found as services-found
-use Rattle.gatt_services.specs.declared.Which as service-which
-use Rattle.gatt_services.specs.declared.Which.TheVariants as which-service
 use Rattle.gatt_characteristics.specs.declared.Found as characteristics-found
 use Rattle.gatt_descriptors.specs.declared.Named.{Named}
 use Rattle.state.specs.Central.{with_services, with_characteristics}
@@ -43,10 +42,10 @@ use Rattle.thm_wire.proofs.Starts.{sends-services, sends-descriptors, sends-char
 -- ---- responses
 
 module _ (m : ℕ) (k : Mtu m) (at : Micros) where
-  sends-into : (w : World) (x : service-which.Which) → Sends m w.told (walk_into w at x).told
+  sends-into : (w : World) (x : Option Service) → Sends m w.told (walk_into w at x).told
   unfolding walk_into
-  sends-into w which-service.Nothing = nothing m w.told
-  sends-into w (which-service.At svc) = sends-characteristics m k w at svc svc.start
+  sends-into w None = nothing m w.told
+  sends-into w (Some svc) = sends-characteristics m k w at svc svc.start
 
   sends-services-done : (w : World) (g : Goal) → Sends m w.told (services_done w at g).told
   unfolding services_done
@@ -57,15 +56,15 @@ module _ (m : ℕ) (k : Mtu m) (at : Micros) where
   unfolding go_on
   sends-go-on w svc from = either (leb from svc.end) _ _ (sends-descriptors m k w at svc from) (nothing m w.told)
 
-  sends-range-done : (w : World) (x : service-which.Which) → Sends m w.told (range_done w at x).told
+  sends-range-done : (w : World) (x : Option Service) → Sends m w.told (range_done w at x).told
   unfolding range_done
-  sends-range-done w which-service.Nothing = nothing m w.told
-  sends-range-done w (which-service.At svc) = sends-go-on w svc (after_range w svc)
+  sends-range-done w None = nothing m w.told
+  sends-range-done w (Some svc) = sends-go-on w svc (after_range w svc)
 
-  sends-characteristics-done : (w : World) (x : service-which.Which) → Sends m w.told (characteristics_done w at x).told
+  sends-characteristics-done : (w : World) (x : Option Service) → Sends m w.told (characteristics_done w at x).told
   unfolding characteristics_done
-  sends-characteristics-done w which-service.Nothing = nothing m w.told
-  sends-characteristics-done w (which-service.At svc) = sends-descriptors m k w at svc svc.start
+  sends-characteristics-done w None = nothing m w.told
+  sends-characteristics-done w (Some svc) = sends-descriptors m k w at svc svc.start
 
   sends-absent : (w : World) (a : Asked) → Sends m w.told (absent w at a).told
   unfolding absent
@@ -99,18 +98,18 @@ module _ (m : ℕ) (k : Mtu m) (at : Micros) where
       (nothing m w.told)
       (either (leb svc.end f.last) _ _ (sends-descriptors m k v at svc svc.start) (sends-characteristics m k v at svc (f.last + 1)))
 
-  sends-characteristics-heard : (w : World) (n size : ℕ) (x : service-which.Which) → Sends m w.told (characteristics_heard w at n size x).told
+  sends-characteristics-heard : (w : World) (n size : ℕ) (x : Option Service) → Sends m w.told (characteristics_heard w at n size x).told
   unfolding characteristics_heard
-  sends-characteristics-heard w n size which-service.Nothing = nothing m w.told
-  sends-characteristics-heard w n size (which-service.At svc) = either (ltb size 7) _ _ (sends-descriptors m k w at svc svc.start) (sends-characteristics-found w svc _)
+  sends-characteristics-heard w n size None = nothing m w.told
+  sends-characteristics-heard w n size (Some svc) = either (ltb size 7) _ _ (sends-descriptors m k w at svc svc.start) (sends-characteristics-found w svc _)
 
   sends-descriptors-found : (w : World) (svc : Service) (x : Named) → Sends m w.told (descriptors_found w at svc x).told
   sends-descriptors-found w svc x = sends-go-on (become w (with_characteristics w.held.state x.table)) svc x.«next»
 
-  sends-descriptors-heard : (w : World) (n format : ℕ) (x : service-which.Which) → Sends m w.told (descriptors_heard w at n format x).told
+  sends-descriptors-heard : (w : World) (n format : ℕ) (x : Option Service) → Sends m w.told (descriptors_heard w at n format x).told
   unfolding descriptors_heard
-  sends-descriptors-heard w n format which-service.Nothing = nothing m w.told
-  sends-descriptors-heard w n format (which-service.At svc) = either (eqb (width_of format) 0) _ _ (sends-go-on w svc (after_range w svc)) (sends-descriptors-found w svc _)
+  sends-descriptors-heard w n format None = nothing m w.told
+  sends-descriptors-heard w n format (Some svc) = either (eqb (width_of format) 0) _ _ (sends-go-on w svc (after_range w svc)) (sends-descriptors-found w svc _)
 
   sends-present : (w : World) (n : ℕ) (a : Asked) → Sends m w.told (present w at n a).told
   unfolding present

@@ -1,4 +1,5 @@
 -- What a step that begins sends: nothing, or one frame.
+use Rattle.std.specs.Prelude.{Option, Some, None}
 use Prim.Native.Nat.{ℕ, ◌+◌, ◌≤◌, max}
 use mathlib.Core.Path.{◌≡◌, refl}
 use mathlib.Core.Bool.{Bool, true, false, ◌||◌}
@@ -17,14 +18,6 @@ use Rattle.att_pdu.specs.Numbers.{op_write_req, op_write_cmd}
 use Rattle.att_pdu.specs.Pdu.{write_req}
 use Rattle.att_pdu.proofs.PduLaws.{length-exchange_mtu_req, length-find_information_req, length-read_by_type_req, length-read_by_group_type_req, length-read_req}
 use Rattle.gatt_services.specs.declared.Service.{Service}
-use Rattle.gatt_services.specs.declared.Which as service-which
-use Rattle.gatt_services.specs.declared.Which.TheVariants as service-variants
-use Rattle.gatt_characteristics.specs.declared.Cccd.{Cccd}
-use Rattle.gatt_characteristics.specs.declared.Cccd.TheVariants as cccd
-use Rattle.gatt_characteristics.specs.declared.Which.{Which}
-use Rattle.gatt_characteristics.specs.declared.Which.TheVariants.{At, Nothing}
-use Rattle.gatt_descriptors.specs.declared.Range.{Range}
-use Rattle.gatt_descriptors.specs.declared.Range.TheVariants as range
 use Rattle.gatt_descriptors.specs.Range.{descriptor_range}
 use Rattle.state.specs.declared.Step.{Step}
 use Rattle.state.specs.declared.Step.TheVariants.{Scan, Connect, ExchangeMtu, DiscoverServices, DiscoverCharacteristics, Subscribe, Write, Read, WaitNotification, Wait, Disconnect, Capture, CaptureSecrets}
@@ -36,6 +29,7 @@ use Rattle.script_rules.specs.Discovery.{primary_service, characteristic_type, l
 use Rattle.script_rules.specs.Start.{ends, start_unlinked, forgotten, discover_in, configuration, subscribe_at, subscribe, commanded, write, read, disconnect, start_linked, barred, start_on, start}
 use Rattle.thm_wire.specs.Wire.{mtu_of}
 use Rattle.thm_wire.proofs.Sends.{Sends, quiet, nothing, either, Mtu, sends-att, sends-request}
+use Rattle.gatt_characteristics.specs.declared.Characteristic.{Characteristic}
 
 -- ---- discovery's requests: 7 bytes at most
 
@@ -44,10 +38,10 @@ module _ (m : ℕ) (k : Mtu m) (w : World) (at : Micros) where
   unfolding discover_services
   sends-services from = sends-request m (asking w 0 from) at _ k (omega (arith, k.low, length-read_by_group_type_req from last_handle primary_service))
 
-  sends-range : (r : Range) → Sends m w.told (ask_range w at r).told
+  sends-range : (r : Option (ℕ × ℕ)) → Sends m w.told (ask_range w at r).told
   unfolding ask_range
-  sends-range range.Nothing = nothing m w.told
-  sends-range (range.Is start end) = sends-request m (asking w 2 start) at _ k (omega (arith, k.low, length-find_information_req start end))
+  sends-range None = nothing m w.told
+  sends-range (Some (start, end)) = sends-request m (asking w 2 start) at _ k (omega (arith, k.low, length-find_information_req start end))
 
   pub sends-descriptors : (svc : Service) (from : ℕ) → Sends m w.told (discover_descriptors w at svc from).told
   unfolding discover_descriptors
@@ -68,35 +62,35 @@ value-pdu opcode handle value from n =
     omega (arith, length-append (le_bytes 2 handle) (take n (drop from value)), length-le_bytes 2 handle, length-take n (drop from value))
 
 module _ (m : ℕ) (k : Mtu m) (w : World) (at : Micros) where
-  sends-in : (x : service-which.Which) → Sends m w.told (discover_in w at x).told
+  sends-in : (x : Option Service) → Sends m w.told (discover_in w at x).told
   unfolding discover_in
-  sends-in (service-variants.At svc) = sends-characteristics m k w at svc svc.start
-  sends-in service-variants.Nothing = sends-services m k w at 1
+  sends-in (Some svc) = sends-characteristics m k w at svc svc.start
+  sends-in None = sends-services m k w at 1
 
-  sends-subscribe-at : (indicate : Bool) (x : Cccd) → Sends m w.told (subscribe_at w at indicate x).told
+  sends-subscribe-at : (indicate : Bool) (x : Option ℕ) → Sends m w.told (subscribe_at w at indicate x).told
   unfolding subscribe_at
-  sends-subscribe-at indicate cccd.Unknown = nothing m w.told
-  sends-subscribe-at indicate (cccd.At handle) = sends-request m w at _ k (configured handle indicate)
+  sends-subscribe-at indicate None = nothing m w.told
+  sends-subscribe-at indicate (Some handle) = sends-request m w at _ k (configured handle indicate)
     where
       configured : (handle : ℕ) (b : Bool) → length (write_req handle (configuration b)) ≤ m
       configured handle true = omega (arith, k.low, length-append (le_bytes 2 handle) (2 ∷ 0 ∷ []), length-le_bytes 2 handle)
       configured handle false = omega (arith, k.low, length-append (le_bytes 2 handle) (1 ∷ 0 ∷ []), length-le_bytes 2 handle)
 
-  sends-subscribe : (indicate : Bool) (x : Which) → Sends m w.told (subscribe w at indicate x).told
+  sends-subscribe : (indicate : Bool) (x : Option Characteristic) → Sends m w.told (subscribe w at indicate x).told
   unfolding subscribe
-  sends-subscribe indicate Nothing = nothing m w.told
-  sends-subscribe indicate (At x) = sends-subscribe-at indicate x.cccd
+  sends-subscribe indicate None = nothing m w.told
+  sends-subscribe indicate (Some x) = sends-subscribe-at indicate x.cccd
 
-  sends-read : (x : Which) → Sends m w.told (read w at x).told
+  sends-read : (x : Option Characteristic) → Sends m w.told (read w at x).told
   unfolding read
-  sends-read Nothing = nothing m w.told
-  sends-read (At x) = sends-request m w at _ k (omega (arith, k.low, length-read_req x.value_handle))
+  sends-read None = nothing m w.told
+  sends-read (Some x) = sends-request m w at _ k (omega (arith, k.low, length-read_req x.value_handle))
 
   -- what is too long is not sent
-  sends-write : w.held.state.bearer.link.mtu ≡ m → (response : Bool) (x : Which) → Sends m w.told (write w at response x).told
+  sends-write : w.held.state.bearer.link.mtu ≡ m → (response : Bool) (x : Option Characteristic) → Sends m w.told (write w at response x).told
   unfolding write
-  sends-write e response Nothing = nothing m w.told
-  sends-write e response (At x) = go (ltb w.held.state.bearer.link.mtu (n + 3)) refl response
+  sends-write e response None = nothing m w.told
+  sends-write e response (Some x) = go (ltb w.held.state.bearer.link.mtu (n + 3)) refl response
     where
       n : ℕ
       n = w.held.state.running.len

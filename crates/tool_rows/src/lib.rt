@@ -1,7 +1,7 @@
 // What each thing of an answer or of a state is in words (docs/TRACE.md, 'Lines'). Bytes stand in s.
 #![tactic(auto)]
 
-use gatt_characteristics::{Cccd, Characteristic};
+use gatt_characteristics::Characteristic;
 use gatt_services::Service;
 use notifications::{Age, Notification};
 use radio_match::AdvAction;
@@ -257,10 +257,10 @@ pub fn service(to: &mut [u8], at: usize, x: Service) -> usize {
     line::uuid(to, m, u)
 }
 
-fn cccd(to: &mut [u8], at: usize, c: Cccd) -> usize {
+fn cccd(to: &mut [u8], at: usize, c: Option<u16>) -> usize {
     match c {
-        Cccd::Unknown => none(to, at),
-        Cccd::At(handle) => half(to, at, handle),
+        None => none(to, at),
+        Some(handle) => half(to, at, handle),
     }
 }
 

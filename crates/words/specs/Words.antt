@@ -1,5 +1,5 @@
 -- What the words of each record say. Every word says something: decoding is total, and fit judges what was decoded.
-use Rattle.std.specs.Prelude.{ℕ, ◌+◌, ◌*◌, ◌/◌, ◌%◌, Bool, ◌||◌, eqb}
+use Rattle.std.specs.Prelude.{ℕ, ◌+◌, ◌*◌, ◌/◌, ◌%◌, Bool, ◌||◌, eqb, Option, Some, None}
 use Rattle.time.specs.declared.Micros.{Micros}
 use Rattle.bytes_base.specs.Choice.{pick}
 use Rattle.uuid_value.specs.declared.Uuid.{Uuid}
@@ -7,8 +7,6 @@ use Rattle.adv_reports.specs.Key.{address_of}
 use Rattle.state_kinds.specs.Kinds.{scan, connect, exchange_mtu, discover_services, discover_characteristics, subscribe, write, read, wait_notification, wait, disconnect, capture}
 use Rattle.gatt_services.specs.declared.Service.{Service}
 use Rattle.gatt_characteristics.specs.declared.Characteristic.{Characteristic}
-use Rattle.gatt_characteristics.specs.declared.Cccd.{Cccd}
-use Rattle.gatt_characteristics.specs.declared.Cccd.TheVariants as cccd
 use Rattle.notifications.specs.declared.Notification.{Notification}
 use Rattle.notifications.specs.declared.Age.{Age}
 use Rattle.notifications.specs.declared.Age.TheVariants.{Any, Within}
@@ -118,8 +116,8 @@ service_of low high x = record { start = x % two16; end = half_at two16 x; uuid 
 
 -- ---- a characteristic: UUID | properties 8 bits, whether the CCCD is known 8, CCCD 16, value handle 16, declaration 16
 
-unfoldable pub cccd_of : Bool → ℕ → Cccd
-cccd_of there handle = pick there (cccd.At handle) cccd.Unknown
+unfoldable pub cccd_of : Bool → ℕ → Option ℕ
+cccd_of there handle = pick there (Some handle) None
 
 unfoldable pub characteristic_of : ℕ → ℕ → ℕ → Characteristic
 characteristic_of low high x =

@@ -1,4 +1,5 @@
 -- The loops over the first places: the search by UUID, the test of the order, the table read and written back.
+use Rattle.std.specs.Prelude.{Some, None}
 use Prim.Native.Nat.{ℕ, suc, ◌+◌, ◌/◌, ◌≤◌, ◌<◌}
 use mathlib.Core.Path.{◌≡◌, refl, sym, ap, ◌∙◌}
 use mathlib.Core.Bool.{Bool, true, false, ◌&&◌}
@@ -15,7 +16,6 @@ use Rattle.lists.specs.Queue.{onto}
 use Rattle.lists.proofs.TableLaws.{here, past, first-pass, first-hit, first-end, onto-onto, set-onto, take-onto, length-onto}
 use Rattle.gatt_characteristics.specs.Characteristic.{zero-characteristic, characteristic_with, up_from}
 use Rattle.gatt_characteristics.specs.declared.Characteristic.{Characteristic}
-use Rattle.gatt_characteristics.specs.declared.Which.TheVariants.{At, Nothing}
 use Rattle.words.specs.Words.{two48, characteristic_of}
 use Rattle.words.specs.Tables.{Tables, word, characteristics_in, tables, with_characteristics}
 use Rattle.words.proofs.RowLaws.{characteristic-at, length-characteristics}
@@ -34,7 +34,7 @@ declaration-at w i h = ap (λ (x : Characteristic). x.declaration) (characterist
 
 module _ (w : List ℕ) (n i : ℕ) (u : Uuid) (k : n ≤ 64)
     (e : characteristic_with u (take n (characteristics_in w)) ≡ characteristic_with u (drop i (take n (characteristics_in w)))) where
-  pub find-end : n ≤ i → Nothing ≡ characteristic_with u (take n (characteristics_in w))
+  pub find-end : n ≤ i → None ≡ characteristic_with u (take n (characteristics_in w))
   find-end h = first-end _ _ _ zero-characteristic (characteristics_in w) n i (omega (arith, length-characteristics w)) e h
 
   module _ (h : i < n) (b : Bool) (eb : b ≡ eqb (num (record { low = word w 480 i; high = word w 544 i })) (num u)) where
@@ -45,8 +45,8 @@ module _ (w : List ℕ) (n i : ℕ) (u : Uuid) (k : n ≤ 64)
     find-pass f = first-pass _ _ _ zero-characteristic (characteristics_in w) n i (omega (arith, length-characteristics w)) e h (test ∙ f)
 
     pub find-hit : b ≡ true → (x : Characteristic) → x ≡ get_or (characteristics_in w) i zero-characteristic
-        → At x ≡ characteristic_with u (take n (characteristics_in w))
-    find-hit f x ex = ap At ex ∙ first-hit _ _ _ zero-characteristic (characteristics_in w) n i (omega (arith, length-characteristics w)) e h (test ∙ f)
+        → Some x ≡ characteristic_with u (take n (characteristics_in w))
+    find-hit f x ex = ap Some ex ∙ first-hit _ _ _ zero-characteristic (characteristics_in w) n i (omega (arith, length-characteristics w)) e h (test ∙ f)
 
 -- ---- the test of the order, without an early exit
 

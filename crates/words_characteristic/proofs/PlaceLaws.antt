@@ -1,4 +1,5 @@
 -- One place of the words: what its third word says, what a write leaves, and the loops over the first places.
+use Rattle.std.specs.Prelude.{Option, Some, None}
 use Prim.Native.Nat.{ℕ, ◌+◌, ◌/◌, ◌%◌, ◌<◌}
 use mathlib.Core.Path.{◌≡◌, sym, ◌∙◌}
 use mathlib.Core.Bool.{Bool, true, false}
@@ -6,8 +7,6 @@ use mathlib.Core.List.{List}
 use native.Mathlib.Omega.{arith}
 use lib.ListN.{length, get_or, set, length-set}
 use lib.Seq.{get_or-set_same, get_or-set_other}
-use Rattle.gatt_characteristics.specs.declared.Cccd.{Cccd}
-use Rattle.gatt_characteristics.specs.declared.Cccd.TheVariants.{Unknown, At}
 use Rattle.gatt_characteristics.specs.declared.Characteristic.{Characteristic}
 use Rattle.words.specs.Words.{two16, two32, two48, half_at, bit_at, cccd_of, characteristic_of}
 use Rattle.words.specs.Tables.{word, characteristics_in, tables, with_characteristics}
@@ -25,28 +24,28 @@ unfolding characteristic_of
 word-says x r known handle e p = rw (p.0, p.1, p.2, p.3, p.4, e)
 
 -- with no CCCD, and with one
-pub says_none : (x : Characteristic) (r : ℕ) → x.cccd ≡ Unknown
+pub says_none : (x : Characteristic) (r : ℕ) → x.cccd ≡ None
     → (r % 256 ≡ x.properties) × (bit_at 256 r ≡ false) × (half_at two16 r ≡ 0) × (half_at two32 r ≡ x.value_handle) × (r / two48 ≡ x.declaration)
     → characteristic_of x.uuid.low x.uuid.high r ≡ x
 unfolding cccd_of
 says_none x r e p = word-says x r false 0 (sym e) p
 
-pub says_at : (x : Characteristic) (r handle : ℕ) → x.cccd ≡ At handle
+pub says_at : (x : Characteristic) (r handle : ℕ) → x.cccd ≡ Some handle
     → (r % 256 ≡ x.properties) × (bit_at 256 r ≡ true) × (half_at two16 r ≡ handle) × (half_at two32 r ≡ x.value_handle) × (r / two48 ≡ x.declaration)
     → characteristic_of x.uuid.low x.uuid.high r ≡ x
 unfolding cccd_of
 says_at x r handle e p = word-says x r true handle (sym e) p
 
-pub cccd-is : (known : Bool) (handle : ℕ) → known ≡ true → At handle ≡ cccd_of known handle
+pub cccd-is : (known : Bool) (handle : ℕ) → known ≡ true → Some handle ≡ cccd_of known handle
 unfolding cccd_of
 cccd-is known handle e = rw e
 
-pub cccd-none : (known : Bool) (handle : ℕ) → known ≡ false → Unknown ≡ cccd_of known handle
+pub cccd-none : (known : Bool) (handle : ℕ) → known ≡ false → None ≡ cccd_of known handle
 unfolding cccd_of
 cccd-none known handle e = rw e
 
 -- the fields put together
-pub unpacks : (low high x : ℕ) (k : Cccd) (d : ℕ) → k ≡ cccd_of (bit_at 256 x) (half_at two16 x) → d ≡ x / two48
+pub unpacks : (low high x : ℕ) (k : Option ℕ) (d : ℕ) → k ≡ cccd_of (bit_at 256 x) (half_at two16 x) → d ≡ x / two48
     → record { declaration = d; properties = x % 256; value_handle = half_at two32 x; uuid = record { low = low; high = high }; cccd = k } ≡ characteristic_of low high x
 unfolding characteristic_of
 unpacks low high x k d e f = rw (e, f)

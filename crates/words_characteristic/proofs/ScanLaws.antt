@@ -1,4 +1,5 @@
 -- Laws of the search for a range from the end.
+use Rattle.std.specs.Prelude.{Option, None}
 use Prim.Native.Nat.{ℕ, ◌+◌, ◌-◌, ◌≤◌, ◌<◌}
 use mathlib.Core.Path.{◌≡◌, refl}
 use mathlib.Core.Bool.{Bool, true, false}
@@ -12,8 +13,6 @@ use Rattle.lists.proofs.TableLaws.{here, past}
 use Rattle.gatt_characteristics.specs.Characteristic.{zero-characteristic}
 use Rattle.gatt_characteristics.specs.declared.Characteristic.{Characteristic}
 use Rattle.gatt_descriptors.specs.Range.{declared_in, stop, range_or, first_range}
-use Rattle.gatt_descriptors.specs.declared.Range.{Range}
-use Rattle.gatt_descriptors.specs.declared.Range.TheVariants.{Nothing}
 use Rattle.words_characteristic.specs.Parts.{scanned_on}
 use Rattle.words_characteristic.specs.declared.Scan.{Scan}
 
@@ -23,7 +22,7 @@ pub record Scanned (start end from : ℕ) (a : List Characteristic) (c j : ℕ) 
   pub to : s.to ≡ stop end (declared_in start end (drop j (take c a)))
 
 module _ (start end from : ℕ) (a : List Characteristic) (c : ℕ) (k : c ≤ length a) where
-  pub scan-start : Scanned start end from a c c (record { best = Nothing; to = end })
+  pub scan-start : Scanned start end from a c c (record { best = None; to = end })
   unfolding declared_in first_range stop
   scan-start =
       let e : drop c (take c a) ≡ [] = past zero-characteristic a c c k (omega arith) in
@@ -61,7 +60,7 @@ module _ (start end from : ℕ) (c : Characteristic) (s : Scan) where
   unfolding scanned_on
   scan-after h g = rw (le-leb start c.declaration h, lt-leb c.declaration end g)
 
-  pub scan-take : (b : Range) (x : ℕ) → start ≤ c.declaration → c.declaration ≤ end
+  pub scan-take : (b : Option (ℕ × ℕ)) (x : ℕ) → start ≤ c.declaration → c.declaration ≤ end
       → b ≡ range_or from c.value_handle s.to s.best → x ≡ c.declaration - 1 → record { best = b; to = x } ≡ scanned_on start end from c s
   unfolding scanned_on
   scan-take b x h g e₁ e₂ = rw (le-leb start c.declaration h, le-leb c.declaration end g, e₁, e₂)

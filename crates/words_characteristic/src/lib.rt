@@ -11,8 +11,7 @@ ghost use Rattle.words.specs.Tables.{characteristics_in};
 ghost use Rattle.words.specs.Tables as all;
 ghost use Rattle.words_characteristic.specs.Parts.{in_table, taken_in, named_in, scanned_on};
 
-use gatt_characteristics::{Cccd, Characteristic, Characteristics, Which};
-use gatt_descriptors::Range;
+use gatt_characteristics::{Characteristic, Characteristics};
 use uuid_value::Uuid;
 use words::{CHARACTERISTIC, CHARACTERISTIC_HIGH, CHARACTERISTIC_LOW};
 
@@ -27,7 +26,7 @@ pub struct Heard {
 // Of the characteristics looked at so far, from the end: the first range, and where the one before them ends.
 #[derive(Clone, Copy)]
 struct Scan {
-    best: Range,
+    best: Option<(u16, u16)>,
     to: u16,
 }
 
@@ -73,8 +72,8 @@ fn word_of(x: Characteristic) -> u64
 {
     let cccd = x.cccd;
     match cccd {
-        Cccd::Unknown => packed(x.declaration, x.value_handle, false, 0, x.properties),
-        Cccd::At(h) => packed(x.declaration, x.value_handle, true, h, x.properties),
+        None => packed(x.declaration, x.value_handle, false, 0, x.properties),
+        Some(h) => packed(x.declaration, x.value_handle, true, h, x.properties),
     }
 }
 
@@ -85,13 +84,13 @@ fn declaration_of(word: u64) -> u16
     (word / DECLARATION) as u16
 }
 
-fn cccd_of(known: bool, handle: u16) -> Cccd
+fn cccd_of(known: bool, handle: u16) -> Option<u16>
     ensures { result ≡ cccd_of known handle }
 {
     if known {
-        return Cccd::At(handle);
+        return Some(handle);
     }
-    Cccd::Unknown
+    None
 }
 
 fn unpacked(low: u64, high: u64, word: u64) -> Characteristic
@@ -155,7 +154,7 @@ fn put_characteristic(tables: &mut [u64; 1152], i: usize, x: Characteristic)
 // ---- searches
 
 // The first of count characteristics with this UUID. Only a hit is read whole.
-pub fn find_characteristic(tables: &[u64; 1152], count: usize, uuid: Uuid) -> Which
+pub fn find_characteristic(tables: &[u64; 1152], count: usize, uuid: Uuid) -> Option<Characteristic>
     requires { count ≤ most_characteristics }
     ensures { result ≡ characteristic_with uuid (take count (characteristics_in tables.now)) }
 {
@@ -168,11 +167,11 @@ pub fn find_characteristic(tables: &[u64; 1152], count: usize, uuid: Uuid) -> Wh
         let u = Uuid { low, high };
         if u.equals(uuid) {
             let x = characteristic_at(tables, i);
-            return Which::At(x);
+            return Some(x);
         }
         i += 1;
     }
-    Which::Nothing
+    None
 }
 
 // Whether the first count rise strictly by declaration. There is no early exit, so that the loop goes fast.
@@ -194,19 +193,19 @@ pub fn is_rising(tables: &[u64; 1152], count: usize) -> bool
     ok
 }
 
-fn range_or(from: u16, value: u16, to: u16, other: Range) -> Range
+fn range_or(from: u16, value: u16, to: u16, other: Option<(u16, u16)>) -> Option<(u16, u16)>
     ensures { result ≡ range_or from value to other }
 {
     if value < att_pdu::LAST_HANDLE {
         let after = value + 1;
         if after < from {
             if from <= to {
-                return Range::Is(from, to);
+                return Some((from, to));
             }
             return other;
         }
         if after <= to {
-            return Range::Is(after, to);
+            return Some((after, to));
         }
         return other;
     }
@@ -239,12 +238,12 @@ pub fn descriptor_range(
     start: u16,
     end: u16,
     from: u16,
-) -> Range
+) -> Option<(u16, u16)>
     requires { count ≤ most_characteristics }
     ensures { result ≡ descriptor_range (in_table tables.now count) start end from }
 {
     let mut s = Scan {
-        best: Range::Nothing,
+        best: None,
         to: end,
     };
     let mut i = count;
@@ -269,7 +268,7 @@ pub fn characteristics_of(tables: &[u64; 1152], count: usize) -> Characteristics
         properties: 0,
         value_handle: 0,
         uuid: Uuid { low: 0, high: 0 },
-        cccd: Cccd::Unknown,
+        cccd: None,
     };
     let mut kept = [zero; 64];
     let mut i = 0;

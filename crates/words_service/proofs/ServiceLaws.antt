@@ -1,4 +1,5 @@
 -- What each return and each loop asks, over plain variables.
+use Rattle.std.specs.Prelude.{Some, None}
 use Prim.Native.Nat.{ℕ, ◌+◌, ◌/◌, ◌%◌, ◌<◌, ◌≤◌}
 use mathlib.Core.Path.{◌≡◌, refl, sym, ap, ap₂, ◌∙◌}
 use mathlib.Core.Bool.{Bool, true, false}
@@ -12,7 +13,6 @@ use Rattle.lists.proofs.TableLaws.{onto-onto, set-onto, take-onto, length-onto, 
 use Rattle.lists.specs.Queue.{onto}
 use Rattle.gatt_services.specs.Service.{service_with, zero-service}
 use Rattle.gatt_services.specs.declared.Service.{Service}
-use Rattle.gatt_services.specs.declared.Which.TheVariants.{At, Nothing}
 use Rattle.uuid_value.specs.Value.{num}
 use Rattle.uuid_value.specs.declared.Uuid.{Uuid}
 use Rattle.words.specs.Rows.{Same}
@@ -113,15 +113,15 @@ module _ (w : List ℕ) (n i : ℕ) (uuid : Uuid) (b : n ≤ 32) (e : service_wi
   tested h t v q r = ap hits (service-at w i (omega arith)) ∙ sym q ∙ r
 
   pub find-hit : i < n → (t : Bool) → t ≡ eqb (num (record { low = word w 384 i; high = word w 416 i })) (num uuid) → t ≡ true
-      → (s : Service) → s ≡ get_or (services_in w) i zero-service → At s ≡ service_with uuid (take n (services_in w))
-  find-hit h t q r s g = ap At g ∙ first-hit hits At Nothing zero-service (services_in w) n i room e h (tested h t true q r)
+      → (s : Service) → s ≡ get_or (services_in w) i zero-service → Some s ≡ service_with uuid (take n (services_in w))
+  find-hit h t q r s g = ap Some g ∙ first-hit hits Some None zero-service (services_in w) n i room e h (tested h t true q r)
 
   pub find-pass : i < n → (t : Bool) → t ≡ eqb (num (record { low = word w 384 i; high = word w 416 i })) (num uuid) → t ≡ false
       → service_with uuid (take n (services_in w)) ≡ service_with uuid (drop (i + 1) (take n (services_in w)))
-  find-pass h t q r = first-pass hits At Nothing zero-service (services_in w) n i room e h (tested h t false q r)
+  find-pass h t q r = first-pass hits Some None zero-service (services_in w) n i room e h (tested h t false q r)
 
-  pub find-end : n ≤ i → Nothing ≡ service_with uuid (take n (services_in w))
-  find-end h = first-end hits At Nothing zero-service (services_in w) n i room e h
+  pub find-end : n ≤ i → None ≡ service_with uuid (take n (services_in w))
+  find-end h = first-end hits Some None zero-service (services_in w) n i room e h
 
 -- ---- one more by value, one more into the words
 

@@ -10,7 +10,7 @@ ghost use Rattle.words.specs.Tables.{services_in};
 ghost use Rattle.words.specs.Words.{two16, half_at};
 ghost use Rattle.words_service.specs.Taken.{taken_in};
 
-use gatt_services::{Service, Services, Which};
+use gatt_services::{Service, Services};
 use uuid_value::Uuid;
 
 // A handle is below it: the end handle stands above the start handle's 16 bits.
@@ -70,7 +70,7 @@ fn put_service(tables: &mut [u64; 1152], i: usize, s: Service)
 // ---- the first count of them
 
 // The first service with this UUID. The handles are read of that one alone.
-pub fn find_service(tables: &[u64; 1152], count: usize, uuid: Uuid) -> Which
+pub fn find_service(tables: &[u64; 1152], count: usize, uuid: Uuid) -> Option<Service>
     requires { count ≤ most_services }
     ensures { result ≡ service_with uuid (take count (services_in tables.now)) }
 {
@@ -80,11 +80,11 @@ pub fn find_service(tables: &[u64; 1152], count: usize, uuid: Uuid) -> Which
         let high = tables[words::SERVICE_HIGH + i];
         let u = Uuid { low, high };
         if u.equals(uuid) {
-            return Which::At(service_at(tables, i));
+            return Some(service_at(tables, i));
         }
         i += 1;
     }
-    Which::Nothing
+    None
 }
 
 // The first count services by value. The other places are zero.

@@ -1,7 +1,7 @@
 use Prim.Native.Nat.{◌-◌}
 use mathlib.Core.Path.{◌≡◌, refl}
 use native.Mathlib.Omega.{arith}
-use lib.ListN.{length, take, length-map}
+use lib.ListN.{length, take}
 use borrow.Author.Rules.{rules}
 use Rattle.lists.proofs.TakenLaws.{going, done}
 use Rattle.gatt_characteristics.specs.declared.Characteristic.{Characteristic}
@@ -62,7 +62,7 @@ entries-preserved-then-x-c c =
     let l = c.loop-p in
     let g = same-array _ _ _ _ _ _ _ _ _ _ _ e.invariant.0 e.invariant.1 l.kept l.invariant.0 in
     let i = g.0 in
-    let new : Characteristic = c.in-At.c in
+    let new : Characteristic = c.in-Some.c in
     let told = c.told_at-told.ensures in
     let handle = c.le16-last.ensures in
     let some_left = c.loop-p-test.true in
@@ -86,7 +86,7 @@ loop-p-preserved c =
     )
 
 -- the search ends at the place
-at_place : (c : Left-loop-p) → c.loop-p.p ≡ place c.in-At.c.declaration (take c.entries.count c.loop-p.kept)
+at_place : (c : Left-loop-p) → c.loop-p.p ≡ place c.in-Some.c.declaration (take c.entries.count c.loop-p.kept)
 at_place c =
     let e = c.entries in
     let l = c.loop-p in
@@ -107,7 +107,7 @@ returns-then-count-eq-MAX_CHARACTERISTICS c =
     let l = c.loop-p in
     let g = same-array _ _ _ _ _ _ _ _ _ _ _ e.invariant.0 e.invariant.1 l.kept l.invariant.0 in
     let i = g.0 in
-    let new : Characteristic = c.in-At.c in
+    let new : Characteristic = c.in-Some.c in
     let told = c.told_at-told.ensures in
     found-is c.args.t l.kept e.count _ _ _
     (stops _ _ _ _ _ _ _ l.kept e.count _ e.at i g.1 e.invariant.2 e.invariant.3 (omega (arith, i.inside)) _ told new (search rules)
@@ -170,23 +170,23 @@ bounds-kept-count c =
 pub overflow_add-count : goal.overflow_add-count
 overflow_add-count c = omega (arith, c.entries.invariant.0.count)
 
-pub entries-smaller-in-At : goal.entries-smaller-in-At
-entries-smaller-in-At c = omega (arith, c.entries.invariant.0.inside)
+pub entries-smaller-in-Some : goal.entries-smaller-in-Some
+entries-smaller-in-Some c = omega (arith, c.entries.invariant.0.inside)
 
-pub entries-preserved-in-At : goal.entries-preserved-in-At
-entries-preserved-in-At c =
+pub entries-preserved-in-Some : goal.entries-preserved-in-Some
+entries-preserved-in-Some c =
     let e = c.entries in
     let l = c.loop-p in
     let g = same-array _ _ _ _ _ _ _ _ _ _ _ e.invariant.0 e.invariant.1 l.kept l.invariant.0 in
     let i = g.0 in
-    let new : Characteristic = c.in-At.c in
+    let new : Characteristic = c.in-Some.c in
     let told = c.told_at-told.ensures in
     let handle = c.le16-last.ensures in
     let b = c.loop-i in
     let shifted = shift-end _ _ _ _ (omega (arith, i.count, i.size)) b.kept b.carry b.i b.invariant c.loop-i-test.false in
     let r =
     inserts _ _ _ _ _ _ _ l.kept e.count _ e.at i g.1 e.invariant.2 e.invariant.3 (omega (arith, i.inside)) _ told new (search rules)
-    l.p (at_place (goal.at.entries-preserved-in-At c).Left-loop-p) l.invariant.3 _ handle (omega (arith, i.count)) _ shifted in
+    l.p (at_place (goal.at.entries-preserved-in-Some c).Left-loop-p) l.invariant.3 _ handle (omega (arith, i.count)) _ shifted in
     (r.0, r.1, e.invariant.2, e.invariant.3)
 
 pub entries-smaller : goal.entries-smaller

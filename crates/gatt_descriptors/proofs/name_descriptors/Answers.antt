@@ -1,7 +1,6 @@
-use Prim.Native.Nat.{◌-◌}
 use mathlib.Core.Path.{◌≡◌}
 use native.Mathlib.Omega.{arith}
-use lib.ListN.{length, length-map}
+use lib.ListN.{length}
 use Rattle.gatt_descriptors.proofs.NamedLaws.{naming, names, named-all}
 use Rattle.gatt_descriptors.proofs.name_descriptors.Goals as goal
 

@@ -1,6 +1,6 @@
 use mathlib.Core.Path.{◌≡◌}
 use native.Mathlib.Omega.{arith}
-use lib.ListN.{length, length-map}
+use lib.ListN.{length}
 use Rattle.gatt_descriptors.proofs.NamedLaws.{entry-marks, entry_other, entry-no-uuid}
 use borrow.Author.Rules.{rules}
 use Rattle.gatt_descriptors.proofs.name_one.Goals as goal

@@ -1,8 +1,7 @@
-use Prim.Native.Nat.{◌-◌}
 use mathlib.Core.Path.{◌≡◌, refl, sym}
 use mathlib.Core.Bool.{false}
 use native.Mathlib.Omega.{arith}
-use lib.ListN.{length, take, length-map}
+use lib.ListN.{length, take}
 use borrow.Author.Rules.{rules}
 use borrow.Author.Tests.{eq-eqb, ne_eqb}
 use Rattle.lists.proofs.TableLaws.{first-pass, first-hit, first-end}
@@ -47,7 +46,7 @@ entries-preserved-then-x-new c =
     let e = c.entries in
     let l = c.loop-i in
     let i = e.invariant.0 in
-    let new : Service = c.in-At.new in
+    let new : Service = c.in-Some.new in
     let told = c.told_at-told.ensures in
     let handle = c.le16-last.ensures in
     let more_left = c.loop-i-test.true in
@@ -73,7 +72,7 @@ loop-i-preserved c =
     )
 
 -- the search passed all that are known
-not_listed : (c : After-loop-i) → listed c.in-At.new.start (take c.entries.count c.entries.kept) ≡ false
+not_listed : (c : After-loop-i) → listed c.in-Some.new.start (take c.entries.count c.entries.kept) ≡ false
 not_listed c =
     let e = c.entries in
     let l = c.loop-i in
@@ -84,7 +83,7 @@ pub returns-then-count-eq-MAX_SERVICES : goal.returns-then-count-eq-MAX_SERVICES
 returns-then-count-eq-MAX_SERVICES c =
     let e = c.entries in
     let i = e.invariant.0 in
-    let new : Service = c.in-At.new in
+    let new : Service = c.in-Some.new in
     let told = c.told_at-told.ensures in
     found-is c.args.t e.kept e.count _ _ _
     (stops _ _ _ _ _ _ e.kept e.count _ e.at i e.invariant.1 e.invariant.2 (omega (arith, i.inside)) _ told new
@@ -100,18 +99,18 @@ bounds-kept-count c = let i = c.entries.invariant.0 in omega (arith, i.count, i.
 pub overflow_add-count : goal.overflow_add-count
 overflow_add-count c = omega (arith, c.entries.invariant.0.count)
 
-pub entries-smaller-in-At : goal.entries-smaller-in-At
-entries-smaller-in-At c = omega (arith, c.entries.invariant.0.inside)
+pub entries-smaller-in-Some : goal.entries-smaller-in-Some
+entries-smaller-in-Some c = omega (arith, c.entries.invariant.0.inside)
 
-pub entries-preserved-in-At : goal.entries-preserved-in-At
-entries-preserved-in-At c =
+pub entries-preserved-in-Some : goal.entries-preserved-in-Some
+entries-preserved-in-Some c =
     let e = c.entries in
     let i = e.invariant.0 in
-    let new : Service = c.in-At.new in
+    let new : Service = c.in-Some.new in
     let told = c.told_at-told.ensures in
     let handle = c.le16-last.ensures in (
       enters _ _ _ _ _ _ e.kept e.count _ e.at i e.invariant.1 e.invariant.2 (omega (arith, i.inside)) _ told _ handle new
-          (with-new _ _ new (search rules) (not_listed (goal.at.entries-preserved-in-At c).After-loop-i)) (omega (arith, i.count)),
+          (with-new _ _ new (search rules) (not_listed (goal.at.entries-preserved-in-Some c).After-loop-i)) (omega (arith, i.count)),
       e.invariant.1,
       e.invariant.2,
     )

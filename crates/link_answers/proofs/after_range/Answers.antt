@@ -2,12 +2,12 @@ use Rattle.link_answers.proofs.AnswerLaws.{after-law}
 use Rattle.words_characteristic.specs.Parts.{in_table}
 use Rattle.link_answers.proofs.after_range.Goals as goal
 
-pub returns-in-Nothing : goal.returns-in-Nothing
-returns-in-Nothing c =
+pub returns-in-None : goal.returns-in-None
+returns-in-None c =
     let a = c.args in
-    λ s x. after-law a.c (in_table a.tables.now a.c.counts.characteristics) a.svc _ c.descriptor_range.ensures _ c.in-Nothing.is
+    λ s x. after-law a.c (in_table a.tables.now a.c.counts.characteristics) a.svc _ c.descriptor_range.ensures _ c.in-None.is
 
-pub returns-in-Is : goal.returns-in-Is
-returns-in-Is c =
+pub returns-in-Some : goal.returns-in-Some
+returns-in-Some c =
     let a = c.args in
-    λ s x. after-law a.c (in_table a.tables.now a.c.counts.characteristics) a.svc _ c.descriptor_range.ensures _ c.in-Is.is
+    λ s x. after-law a.c (in_table a.tables.now a.c.counts.characteristics) a.svc _ c.descriptor_range.ensures _ c.in-Some.is

@@ -15,17 +15,17 @@ request-requires c =
       omega (arith, l),
     )
 
-pub returns-in-Nothing : goal.returns-in-Nothing
-returns-in-Nothing c =
+pub returns-in-None : goal.returns-in-None
+returns-in-None c =
     none_left c.args.t _ _ _ _ _ _ _
-    c.descriptor_range.ensures _ _ _ c.in-Nothing.is
+    c.descriptor_range.ensures _ _ _ c.in-None.is
     c.end_turn.ensures
 
-pub returns-in-Is : goal.returns-in-Is
-returns-in-Is c =
+pub returns-in-Some : goal.returns-in-Some
+returns-in-Some c =
     some_left c.args.t _ _ _ _ _ _ _
     c.descriptor_range.ensures _ _ _ _
-    c.in-Is.is
+    c.in-Some.is
     (asked-thus c.args.t _ _ _ _ _ _ _ _ _
     c.ask_from-u.ensures c.find_information_req-pdu.ensures
     c.request.ensures)

@@ -2,10 +2,10 @@ use mathlib.Core.Path.{◌∙◌}
 use Rattle.script_starts.proofs.StartLaws.{service-known, service-unknown}
 use Rattle.script_starts.proofs.start_characteristics.Goals as goal
 
-pub returns-in-At : goal.returns-in-At
-returns-in-At c =
+pub returns-in-Some : goal.returns-in-Some
+returns-in-Some c =
     c.discover_characteristics.ensures ∙ service-known _ _ _ _
-    c.in-At.is
+    c.in-Some.is
 
-pub returns-in-Nothing : goal.returns-in-Nothing
-returns-in-Nothing c = c.discover_services.ensures _ _ ∙ service-unknown _ _ _ c.in-Nothing.is
+pub returns-in-None : goal.returns-in-None
+returns-in-None c = c.discover_services.ensures _ _ ∙ service-unknown _ _ _ c.in-None.is
