@@ -6,6 +6,7 @@ ghost use Rattle.std.specs.Prelude.{◌≡◌, length};
 ghost use Rattle.adv_reports.specs.Key.{address_of};
 ghost use Rattle.uuid_value.specs.Value.{num};
 ghost use Rattle.state.specs.Fresh.{fresh_with};
+ghost use Rattle.state_refusals.specs.Refusals.{told_number};
 ghost use Rattle.script_rules.specs.Batch.{push_steps};
 ghost use Rattle.script_rules.specs.Events.{on_timer, on_connected, on_disconnected};
 ghost use Rattle.link_rules.specs.Link.{on_fragment};
@@ -24,40 +25,40 @@ ghost use Rattle.c_central.specs.After.{outcome, quiet, heard, Answered, Refused
 use central_answers::{Answer, QuietAnswer};
 use radio_calls::Advertised;
 use state_core::Core;
-use state_refusals::refusal;
+use state_refusals::Refusal;
 use time::Micros;
 use uuid_value::Uuid;
 
 // ---- an answer in words
 
 // The core's words stay, if the call was refused.
-fn give_core(core: &mut [u64; 37], refusal: u8, next: Core)
-    ensures { Given refusal next core.old core.new }
+fn give_core(core: &mut [u64; 37], refusal: Option<Refusal>, next: Core)
+    ensures { Given (told_number refusal) next core.old core.new }
 {
-    if refusal == refusal::ACCEPTED {
+    if refusal.is_none() {
         c_core::encode(core, next);
     }
 }
 
 fn give(core: &mut [u64; 37], told: &mut [u64; 8], a: Answer)
-    ensures { (told.new ≡ answer_words a.refusal a.sent) × Given a.refusal a.core core.old core.new }
+    ensures { (told.new ≡ answer_words (told_number a.refusal) a.sent) × Given (told_number a.refusal) a.core core.old core.new }
 {
     let refusal = a.refusal;
     let sent = a.sent;
     let next = a.core;
-    *told = c_told::answer_words(refusal, sent);
+    *told = c_told::answer_words(state_refusals::told_number(refusal), sent);
     give_core(core, refusal, next);
 }
 
 // A fragment that makes its frame too long is refused, and what is held of the frame is emptied.
 fn give_fragment(core: &mut [u64; 37], told: &mut [u64; 8], a: Answer)
-    ensures { (told.new ≡ answer_words a.refusal a.sent) × GivenFragment a.refusal a.core core.old core.new }
+    ensures { (told.new ≡ answer_words (told_number a.refusal) a.sent) × GivenFragment (told_number a.refusal) a.core core.old core.new }
 {
     let refusal = a.refusal;
     let sent = a.sent;
     let next = a.core;
-    *told = c_told::answer_words(refusal, sent);
-    if refusal == refusal::LONG_FRAME {
+    *told = c_told::answer_words(state_refusals::told_number(refusal), sent);
+    if refusal == Some(Refusal::LongFrame) {
         core[c_core::HELD] = 0;
         return;
     }
@@ -65,21 +66,21 @@ fn give_fragment(core: &mut [u64; 37], told: &mut [u64; 8], a: Answer)
 }
 
 fn give_quietly(core: &mut [u64; 37], told: &mut [u64; 8], a: QuietAnswer)
-    ensures { (told.new ≡ refusal_words a.refusal) × Given a.refusal a.core core.old core.new }
+    ensures { (told.new ≡ refusal_words (told_number a.refusal)) × Given (told_number a.refusal) a.core core.old core.new }
 {
     let refusal = a.refusal;
     let next = a.core;
-    *told = c_told::refusal_words(refusal);
+    *told = c_told::refusal_words(state_refusals::told_number(refusal));
     give_core(core, refusal, next);
 }
 
 fn give_action(core: &mut [u64; 37], told: &mut [u64; 8], a: Advertised)
-    ensures { (told.new ≡ advertised_words a.refusal a.action) × Given a.refusal a.core core.old core.new }
+    ensures { (told.new ≡ advertised_words (told_number a.refusal) a.action) × Given (told_number a.refusal) a.core core.old core.new }
 {
     let refusal = a.refusal;
     let action = a.action;
     let next = a.core;
-    *told = c_told::advertised_words(refusal, action);
+    *told = c_told::advertised_words(state_refusals::told_number(refusal), action);
     give_core(core, refusal, next);
 }
 

@@ -1,6 +1,7 @@
 -- What a state by value says, and all that a call on it gives and changes.
 use Rattle.std.specs.Prelude.{ℕ, List}
 use Rattle.state.specs.Central.{Central}
+use Rattle.state_refusals.specs.Refusals.{told_number}
 use Rattle.script_rules.specs.Outcome.{Outcome, Quiet}
 use Rattle.radio_match.specs.declared.AdvAction.TheVariants as action
 use Rattle.radio_rules.specs.Hearing as hearing
@@ -14,14 +15,14 @@ abbrev pub reading : State → Central
 reading s = central s.core s.tables
 
 abbrev pub outcome : Answer → List ℕ → List ℕ → Outcome
-outcome a store out = record { state = reading a.state; refusal = a.refusal; sent = a.sent; store = store; out = out }
+outcome a store out = record { state = reading a.state; refusal = told_number a.refusal; sent = a.sent; store = store; out = out }
 
 abbrev pub quiet : QuietAnswer → List ℕ → Quiet
-quiet a store = record { state = reading a.state; refusal = a.refusal; store = store }
+quiet a store = record { state = reading a.state; refusal = told_number a.refusal; store = store }
 
 -- of the radio's calls
 abbrev pub acted : Advertised → List ℕ → hearing.Outcome
-acted a store = record { state = reading a.state; refusal = a.refusal; action = a.action; store = store }
+acted a store = record { state = reading a.state; refusal = told_number a.refusal; action = a.action; store = store }
 
 abbrev pub heard : QuietAnswer → List ℕ → hearing.Outcome
-heard a store = record { state = reading a.state; refusal = a.refusal; action = action.Nothing; store = store }
+heard a store = record { state = reading a.state; refusal = told_number a.refusal; action = action.Nothing; store = store }

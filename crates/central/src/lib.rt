@@ -14,6 +14,7 @@ use script_rules::Batch;
 use state::{Address, Sent};
 use state_core::Core;
 use state_readers::{Given, Handle, Timer};
+use state_refusals::Refusal;
 use time::Micros;
 
 pub mod fresh;
@@ -24,11 +25,11 @@ pub struct State {
     pub tables: [u64; 1152],
 }
 
-// The answer of a call that may send. A refusal of 0 is none.
+// The answer of a call that may send.
 #[derive(Clone, Copy)]
 pub struct Answer {
     pub state: State,
-    pub refusal: u8,
+    pub refusal: Option<Refusal>,
     pub sent: Sent,
 }
 
@@ -36,14 +37,14 @@ pub struct Answer {
 #[derive(Clone, Copy)]
 pub struct QuietAnswer {
     pub state: State,
-    pub refusal: u8,
+    pub refusal: Option<Refusal>,
 }
 
 // The answer of an advertising call.
 #[derive(Clone, Copy)]
 pub struct Advertised {
     pub state: State,
-    pub refusal: u8,
+    pub refusal: Option<Refusal>,
     pub action: AdvAction,
 }
 

@@ -1,20 +1,21 @@
 // What every call on lent tables gives: the core that it leaves, its refusal, and what it sent.
 #![tactic(auto)]
 
-ghost use Rattle.std.specs.Prelude.{◌≡◌, List, ℕ};
+ghost use Rattle.std.specs.Prelude.{◌≡◌, List, ℕ, None, Some};
+ghost use Rattle.state_refusals.specs.Refusals.{number};
 ghost use Rattle.script_rules.specs.Outcome.{begins, done, refused, quietly, quietly_refused};
 ghost use Rattle.state_core.specs.Reading.{central, held, world};
 ghost use Rattle.central_answers.specs.Answers.{outcome, quiet};
 
 use state::{LinkRequest, Sent};
 use state_core::{Core, Turn};
-use state_refusals::refusal;
+use state_refusals::Refusal;
 
-// The answer of a call that may send. A refusal of 0 is none.
+// The answer of a call that may send.
 #[derive(Clone, Copy)]
 pub struct Answer {
     pub core: Core,
-    pub refusal: u8,
+    pub refusal: Option<Refusal>,
     pub sent: Sent,
 }
 
@@ -22,7 +23,7 @@ pub struct Answer {
 #[derive(Clone, Copy)]
 pub struct QuietAnswer {
     pub core: Core,
-    pub refusal: u8,
+    pub refusal: Option<Refusal>,
 }
 
 const UNSENT: Sent = Sent {
@@ -40,40 +41,43 @@ pub fn begin(core: Core) -> Turn
 
 // A call is done.
 pub fn done(t: Turn) -> Answer
-    ensures { (result.refusal ≡ 0) × ((w s o : List ℕ) → outcome result w s o ≡ done (world t w s o)) }
+    ensures { (result.refusal ≡ None) × ((w s o : List ℕ) → outcome result w s o ≡ done (world t w s o)) }
 {
     let core = t.core;
     let sent = t.sent;
     Answer {
         core,
-        refusal: refusal::ACCEPTED,
+        refusal: None,
         sent,
     }
 }
 
 // A call is refused.
-pub fn refuse(core: Core, why: u8) -> Answer
-    ensures { (result.core ≡ core) × (result.refusal ≡ why) × ((w s o : List ℕ) → outcome result w s o ≡ refused (central core w) why s o) }
+pub fn refuse(core: Core, why: Refusal) -> Answer
+    ensures { (result.core ≡ core) × (result.refusal ≡ Some why) × ((w s o : List ℕ) → outcome result w s o ≡ refused (central core w) (number why) s o) }
 {
     Answer {
         core,
-        refusal: why,
+        refusal: Some(why),
         sent: UNSENT,
     }
 }
 
 // The same of a call that sends nothing.
 pub fn done_quietly(core: Core) -> QuietAnswer
-    ensures { (result.refusal ≡ 0) × ((w s : List ℕ) → quiet result w s ≡ quietly (held core w s)) }
+    ensures { (result.refusal ≡ None) × ((w s : List ℕ) → quiet result w s ≡ quietly (held core w s)) }
 {
     QuietAnswer {
         core,
-        refusal: refusal::ACCEPTED,
+        refusal: None,
     }
 }
 
-pub fn refuse_quietly(core: Core, why: u8) -> QuietAnswer
-    ensures { (result.core ≡ core) × (result.refusal ≡ why) × ((w s : List ℕ) → quiet result w s ≡ quietly_refused (central core w) why s) }
+pub fn refuse_quietly(core: Core, why: Refusal) -> QuietAnswer
+    ensures { (result.core ≡ core) × (result.refusal ≡ Some why) × ((w s : List ℕ) → quiet result w s ≡ quietly_refused (central core w) (number why) s) }
 {
-    QuietAnswer { core, refusal: why }
+    QuietAnswer {
+        core,
+        refusal: Some(why),
+    }
 }

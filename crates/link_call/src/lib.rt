@@ -3,6 +3,7 @@
 
 ghost use Rattle.std.specs.Prelude.{◌≡◌, true, false, List, ℕ, ◌+◌, ◌≤◌, ◌<◌, length};
 ghost use Rattle.state_places.specs.Sizes.{frame_size};
+ghost use Rattle.state_refusals.specs.Refusals.{told_number};
 ghost use Rattle.state_rules.specs.Fit.{most_notified};
 ghost use Rattle.script_rules.specs.World.{on_told};
 ghost use Rattle.script_rules.specs.Send.{Room};
@@ -20,7 +21,6 @@ use att_pdu::{err, op};
 use central_answers::Answer;
 use l2cap::cid;
 use state_core::{Core, Turn};
-use state_refusals::refusal;
 use time::Micros;
 
 // The last opcode before the notification's.
@@ -193,16 +193,23 @@ pub fn on_fragment(
     fragment: &[u8],
 ) -> Answer
     ensures out_after { outcome result tables.new store.new out.new ≡ on_fragment (central core tables.old) store.old out.old at start fragment.now }
-    ensures refused { FragmentLeaves result.refusal core result.core tables.old tables.new store.old store.new
-        × ((result.refusal ≡ 0 → ⊥) → out.new ≡ out.old) }
+    ensures refused { FragmentLeaves (told_number result.refusal) core result.core tables.old tables.new store.old store.new
+        × ((told_number result.refusal ≡ 0 → ⊥) → out.new ≡ out.old) }
 {
     let n = fragment.len();
-    let refusal = link_frames::gate_fragment(core, tables, store.len(), out.len(), at, start, n);
-    if refusal == refusal::ACCEPTED {
-        let begun = central_answers::begin(core);
-        let t = hear(begun, tables, store, out, at, start, fragment);
-        return central_answers::done(t);
+    if let Err(why) = link_frames::gate_fragment(
+        core,
+        tables,
+        store.len(),
+        out.len(),
+        at,
+        start,
+        n,
+    ) {
+        let left = link_frames::refusing(core, why);
+        return central_answers::refuse(left, why);
     }
-    let left = link_frames::refusing(core, refusal);
-    central_answers::refuse(left, refusal)
+    let begun = central_answers::begin(core);
+    let t = hear(begun, tables, store, out, at, start, fragment);
+    central_answers::done(t)
 }

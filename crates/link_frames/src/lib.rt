@@ -3,12 +3,13 @@
 
 ghost use Rattle.std.specs.Prelude.{◌≡◌, List, ℕ, ◌+◌, ◌≤◌, length};
 ghost use Rattle.state_places.specs.Sizes.{frame_size};
+ghost use Rattle.state_refusals.specs.Refusals.{number, gate_number};
 ghost use Rattle.link_rules.specs.Fragment.{with_held, held_before, gathered, whole, held_fits, gate_fragment, refusing};
 ghost use Rattle.state_core.specs.Reading.{central, held};
 
 use state::Bearer;
 use state_core::Core;
-use state_rules::refusal;
+use state_refusals::Refusal;
 use time::Micros;
 
 // ---- what is held
@@ -78,39 +79,20 @@ pub fn gate_fragment(
     at: Micros,
     start: bool,
     n: usize,
-) -> u8
-    ensures { result ≡ gate_fragment (central c tables.now) store_len out_len at start n }
+) -> Result<(), Refusal>
+    ensures { gate_number result ≡ gate_fragment (central c tables.now) store_len out_len at start n }
 {
-    if !state_fit::core_fits(c) {
-        return refusal::UNFIT;
-    }
-    let counts = c.counts;
-    let counters = c.counters;
-    let fit = state_fit::tables_fit(
-        tables,
-        counts.waiting,
-        counts.results,
-        counts.characteristics,
-        counts.notifications,
-        counters.links,
-    );
-    let sized = state_refusals::sizes_fit(store_len, out_len);
-    let late = time::too_late(at);
-    let shared = state_refusals::first_refusal(fit, sized, !late);
-    if shared != refusal::ACCEPTED {
-        return shared;
-    }
-    let bearer = c.bearer;
-    let full = state_counters::is_full(counters);
-    let fits = held_fits(bearer, start, n);
+    state_fit::gate(c, tables, store_len, out_len, at)?;
+    let full = state_counters::is_full(c.counters);
+    let fits = held_fits(c.bearer, start, n);
     state_refusals::fragment_refusal(full, fits)
 }
 
 // The state that a refusal leaves: 7 alone empties what is held.
-pub fn refusing(c: Core, why: u8) -> Core
-    ensures { (w : List ℕ) → central result w ≡ refusing (central c w) why }
+pub fn refusing(c: Core, why: Refusal) -> Core
+    ensures { (w : List ℕ) → central result w ≡ refusing (central c w) (number why) }
 {
-    if why == refusal::LONG_FRAME {
+    if why == Refusal::LongFrame {
         return with_held(c, 0);
     }
     c

@@ -1,13 +1,14 @@
 -- The answers of the radio's calls with their words and store, as what a call leaves and answers.
 use Rattle.std.specs.Prelude.{ℕ, List}
 use Rattle.radio_match.specs.declared.AdvAction.TheVariants as action
+use Rattle.state_refusals.specs.Refusals.{told_number}
 use Rattle.radio_rules.specs.Hearing.{Outcome}
 use Rattle.state_core.specs.Reading.{central}
 use Rattle.central_answers.specs.declared.QuietAnswer.{QuietAnswer}
 use Rattle.radio_calls.specs.declared.Advertised.{Advertised}
 
 abbrev pub outcome : Advertised → List ℕ → List ℕ → Outcome
-outcome a w s = record { state = central a.core w; refusal = a.refusal; action = a.action; store = s }
+outcome a w s = record { state = central a.core w; refusal = told_number a.refusal; action = a.action; store = s }
 
 abbrev pub taken : QuietAnswer → List ℕ → List ℕ → Outcome
-taken a w s = record { state = central a.core w; refusal = a.refusal; action = action.Nothing; store = s }
+taken a w s = record { state = central a.core w; refusal = told_number a.refusal; action = action.Nothing; store = s }

@@ -5,6 +5,7 @@ ghost use Rattle.std.specs.Prelude.{◌≡◌, ◌≤◌, length};
 ghost use Rattle.state_places.specs.Sizes.{most_reports, data_size};
 ghost use Rattle.adv_reports.specs.Reports.{no_response};
 ghost use Rattle.adv_report_tables.specs.Tables.{kept_response};
+ghost use Rattle.state_refusals.specs.Refusals.{told_number};
 ghost use Rattle.radio_rules.specs.Hearing.{adv, advertised, scan_responded};
 ghost use Rattle.words.specs.Tables as all;
 ghost use Rattle.words.specs.Tables.{heard_in};
@@ -18,7 +19,7 @@ use radio_match::AdvAction;
 use state::Address;
 use state_core::Core;
 use state_places::MAX_REPORTS;
-use state_refusals::refusal;
+use state_refusals::Refusal;
 use time::Micros;
 use words_report::{NO_RESPONSE, Report};
 
@@ -26,7 +27,7 @@ use words_report::{NO_RESPONSE, Report};
 #[derive(Clone, Copy)]
 pub struct Advertised {
     pub core: Core,
-    pub refusal: u8,
+    pub refusal: Option<Refusal>,
     pub action: AdvAction,
 }
 
@@ -104,7 +105,7 @@ fn keep(
 
 // ---- the calls
 
-fn unchanged(core: Core, refusal: u8) -> Advertised
+fn unchanged(core: Core, refusal: Option<Refusal>) -> Advertised
     ensures { result ≡ record { core = core; refusal = refusal; action = AdvAction.Nothing } }
 {
     Advertised {
@@ -128,23 +129,22 @@ pub fn on_advertising(
 ) -> Advertised
     ensures store_after { outcome result tables.new store.new
         ≡ advertised (central core tables.old) store.old (adv at channel pdu address «data».now to_central) }
-    ensures refused { Leaves result.refusal core result.core tables.old tables.new store.old store.new }
+    ensures refused { Leaves (told_number result.refusal) core result.core tables.old tables.new store.old store.new }
 {
     let gate = state_fit::gate_quiet(core, tables, store.len(), at);
-    let why = radio_rules::then_data(gate, data.len());
-    if why != refusal::ACCEPTED {
-        return unchanged(core, why);
+    if let Err(why) = radio_rules::then_data(gate, data.len()) {
+        return unchanged(core, Some(why));
     }
     let running = core.running;
     if !radio_match::is_listening(running) {
-        return unchanged(core, refusal::ACCEPTED);
+        return unchanged(core, None);
     }
     let key = adv_reports::key_of(address);
     let asked = core.key_count;
     let asks = radio_match::is_asking(running, pdu);
     let new = words_report::is_due(asks, tables, asked, key);
     if radio_rules::keys_full(new, asked) {
-        return unchanged(core, refusal::KEYS_FULL);
+        return unchanged(core, Some(Refusal::KeysFull));
     }
     let kept = keep(tables, store, core.reports, key, at, channel, pdu, data);
     let mut o = core;
@@ -154,7 +154,7 @@ pub fn on_advertising(
         o.key_count = asked + 1;
         return Advertised {
             core: o,
-            refusal: refusal::ACCEPTED,
+            refusal: None,
             action: AdvAction::ScanRequest,
         };
     }
@@ -171,7 +171,7 @@ pub fn on_advertising(
     );
     Advertised {
         core: o,
-        refusal: refusal::ACCEPTED,
+        refusal: None,
         action,
     }
 }
@@ -187,12 +187,11 @@ pub fn on_scan_response(
 ) -> QuietAnswer
     ensures store_after { taken result tables.new store.new
         ≡ scan_responded (central core tables.old) store.old at address «data».now }
-    ensures refused { Leaves result.refusal core result.core tables.old tables.new store.old store.new }
+    ensures refused { Leaves (told_number result.refusal) core result.core tables.old tables.new store.old store.new }
 {
     let gate = state_fit::gate_quiet(core, tables, store.len(), at);
-    let why = radio_rules::then_data(gate, data.len());
-    if why != refusal::ACCEPTED {
-        return QuietAnswer { core, refusal: why };
+    if let Err(why) = radio_rules::then_data(gate, data.len()) {
+        return central_answers::refuse_quietly(core, why);
     }
     let count = core.reports;
     let key = adv_reports::key_of(address);
@@ -203,13 +202,7 @@ pub fn on_scan_response(
         x.response = radio_rules::narrow(data.len());
         words_report::put_report(tables, i, x);
         adv_reports::put_response(store, i, data);
-        return QuietAnswer {
-            core,
-            refusal: refusal::ACCEPTED,
-        };
+        return central_answers::done_quietly(core);
     }
-    QuietAnswer {
-        core,
-        refusal: refusal::ACCEPTED,
-    }
+    central_answers::done_quietly(core)
 }

@@ -3,21 +3,20 @@
 
 ghost use Rattle.std.specs.Prelude.{◌≡◌, ◌≤◌};
 ghost use Rattle.state_places.specs.Sizes.{data_size};
+ghost use Rattle.state_refusals.specs.Refusals.{gate_number};
 ghost use Rattle.radio_rules.specs.Hearing.{then_data, no_key};
 
-use state_rules::refusal;
+use state_refusals::Refusal;
 
 // After refusals 1 to 3: the data's.
-pub fn then_data(why: u8, len: usize) -> u8
-    ensures { result ≡ then_data why len }
+pub fn then_data(gate: Result<(), Refusal>, len: usize) -> Result<(), Refusal>
+    ensures { gate_number result ≡ then_data (gate_number gate) len }
 {
-    if why != refusal::ACCEPTED {
-        return why;
-    }
+    gate?;
     if state_places::MAX_DATA < len {
-        return refusal::LONG_DATA;
+        return Err(Refusal::LongData);
     }
-    refusal::ACCEPTED
+    Ok(())
 }
 
 // The length of data, as it is kept.

@@ -14,7 +14,6 @@ use adv_presence::Presence;
 pub use radio_sights::{AdvReport, Response, Seen, Span};
 use state_core::Core;
 use state_places::MAX_DATA;
-use state_refusals::refusal;
 use uuid_value::Uuid;
 
 // Where bytes stand in the store: refused, nowhere, or there.
@@ -60,9 +59,8 @@ fn response_in(i: usize, len: u8) -> Response
 pub fn report(core: Core, tables: &[u64; 1152], store: &[u8], i: usize) -> Seen
     ensures { result ≡ view (central core tables.now) (length store.now) i }
 {
-    let why = state_fit::gate_reader(core, tables, store.len());
-    if why != refusal::ACCEPTED {
-        return Seen::Refused(why);
+    if let Err(why) = state_fit::gate_reader(core, tables, store.len()) {
+        return Seen::Refused(why.number());
     }
     if core.reports <= i {
         return Seen::Nothing;

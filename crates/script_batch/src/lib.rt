@@ -2,6 +2,7 @@
 #![tactic(auto)]
 
 ghost use Rattle.std.specs.Prelude.{◌≡◌};
+ghost use Rattle.state_refusals.specs.Refusals.{gate_number, told_number};
 ghost use Rattle.script_rules.specs.Batch.{gate_batch, push_steps};
 ghost use Rattle.state_core.specs.Reading.{central};
 ghost use Rattle.central_answers.specs.Answers.{outcome, Leaves};
@@ -9,7 +10,7 @@ ghost use Rattle.central_answers.specs.Answers.{outcome, Leaves};
 use central_answers::Answer;
 use script_rules::Batch;
 use state_core::Core;
-use state_refusals::refusal;
+use state_refusals::Refusal;
 use time::Micros;
 
 // In their order: 1, 2, 3, then 4, then 5.
@@ -21,22 +22,19 @@ fn gate_batch(
     at: Micros,
     b: Batch,
     size: usize,
-) -> u8
-    ensures { result ≡ gate_batch (central c tables.now) store_len out_len at b size }
+) -> Result<(), Refusal>
+    ensures { gate_number result ≡ gate_batch (central c tables.now) store_len out_len at b size }
 {
-    let shared = state_fit::gate(c, tables, store_len, out_len, at);
-    if shared != refusal::ACCEPTED {
-        return shared;
-    }
+    state_fit::gate(c, tables, store_len, out_len, at)?;
     if !script_limits::batch_fits(b, size) {
-        return refusal::BAD_BATCH;
+        return Err(Refusal::BadBatch);
     }
     let n = c.counts;
     let k = c.counters;
     if !script_limits::counters_fit(k, n.waiting, b.count) {
-        return refusal::COUNTER_FULL;
+        return Err(Refusal::CounterFull);
     }
-    refusal::ACCEPTED
+    Ok(())
 }
 
 // A batch of steps waits behind the others, and the script goes on.
@@ -50,9 +48,9 @@ pub fn push_steps(
     values: &[u8],
 ) -> Answer
     ensures out_after { outcome result tables.new store.new out.new ≡ push_steps (central core tables.old) store.old out.old at batch values.now }
-    ensures refused { Leaves result.refusal core result.core tables.old tables.new store.old store.new × ((result.refusal ≡ 0 → ⊥) → out.new ≡ out.old) }
+    ensures refused { Leaves (told_number result.refusal) core result.core tables.old tables.new store.old store.new × ((told_number result.refusal ≡ 0 → ⊥) → out.new ≡ out.old) }
 {
-    let refusal = gate_batch(
+    if let Err(why) = gate_batch(
         core,
         tables,
         store.len(),
@@ -60,11 +58,10 @@ pub fn push_steps(
         at,
         batch,
         values.len(),
-    );
-    if refusal == refusal::ACCEPTED {
-        let queued = script_queue::push_all(core, tables, store, values, batch);
-        let t = script_run::advance(central_answers::begin(queued), tables, store, out, at);
-        return central_answers::done(t);
+    ) {
+        return central_answers::refuse(core, why);
     }
-    central_answers::refuse(core, refusal)
+    let queued = script_queue::push_all(core, tables, store, values, batch);
+    let t = script_run::advance(central_answers::begin(queued), tables, store, out, at);
+    central_answers::done(t)
 }

@@ -4,6 +4,7 @@
 ghost use Rattle.std.specs.Prelude.{◌≡◌, List, ℕ, ◌≤◌, ◌<◌, length};
 ghost use Rattle.state_places.specs.Sizes.{store_size, most_results};
 ghost use Rattle.time.specs.Clock.{latest};
+ghost use Rattle.state_refusals.specs.Refusals.{gate_number, told_number};
 ghost use Rattle.script_rules.specs.Timeouts.{timed_out};
 ghost use Rattle.script_rules.specs.Comings.{given_up, greeted, link_counted, goes_on, cut_status, expire, connect, cut_off, lose};
 ghost use Rattle.script_rules.specs.World.{on_held};
@@ -16,7 +17,7 @@ ghost use Rattle.central_answers.specs.Answers.{outcome, quiet, Leaves};
 use central_answers::{Answer, QuietAnswer};
 use state::{Counters, Step, StepStatus};
 use state_core::{Core, Turn};
-use state_refusals::refusal;
+use state_refusals::Refusal;
 use time::Micros;
 
 // ---- the timer
@@ -71,15 +72,14 @@ pub fn on_timer(
     at: Micros,
 ) -> Answer
     ensures out_after { outcome result tables.new store.new out.new ≡ on_timer (central core tables.old) store.old out.old at }
-    ensures refused { Leaves result.refusal core result.core tables.old tables.new store.old store.new × ((result.refusal ≡ 0 → ⊥) → out.new ≡ out.old) }
+    ensures refused { Leaves (told_number result.refusal) core result.core tables.old tables.new store.old store.new × ((told_number result.refusal ≡ 0 → ⊥) → out.new ≡ out.old) }
 {
-    let refusal = state_fit::gate(core, tables, store.len(), out.len(), at);
-    if refusal == refusal::ACCEPTED {
-        let begun = central_answers::begin(core);
-        let ended = expire(begun, tables, store, out, at);
-        return central_answers::done(ended);
+    if let Err(why) = state_fit::gate(core, tables, store.len(), out.len(), at) {
+        return central_answers::refuse(core, why);
     }
-    central_answers::refuse(core, refusal)
+    let begun = central_answers::begin(core);
+    let ended = expire(begun, tables, store, out, at);
+    central_answers::done(ended)
 }
 
 // ---- a link comes
@@ -134,18 +134,20 @@ fn connect(
 }
 
 // Refusals 1 to 3, then 5: no more links can be counted.
-fn gate_connected(c: Core, tables: &[u64; 1152], store_len: usize, out_len: usize, at: Micros) -> u8
-    ensures { result ≡ gate_connected (central c tables.now) store_len out_len at }
+fn gate_connected(
+    c: Core,
+    tables: &[u64; 1152],
+    store_len: usize,
+    out_len: usize,
+    at: Micros,
+) -> Result<(), Refusal>
+    ensures { gate_number result ≡ gate_connected (central c tables.now) store_len out_len at }
 {
-    let why = state_fit::gate(c, tables, store_len, out_len, at);
-    if why != refusal::ACCEPTED {
-        return why;
+    state_fit::gate(c, tables, store_len, out_len, at)?;
+    if state_counters::links_full(c.counters) {
+        return Err(Refusal::CounterFull);
     }
-    let counters = c.counters;
-    if state_counters::links_full(counters) {
-        return refusal::COUNTER_FULL;
-    }
-    refusal::ACCEPTED
+    Ok(())
 }
 
 // There is a new link, by this handle.
@@ -158,14 +160,13 @@ pub fn on_connected(
     at: Micros,
 ) -> Answer
     ensures out_after { outcome result tables.new store.new out.new ≡ on_connected (central core tables.old) store.old out.old handle at }
-    ensures refused { Leaves result.refusal core result.core tables.old tables.new store.old store.new × ((result.refusal ≡ 0 → ⊥) → out.new ≡ out.old) }
+    ensures refused { Leaves (told_number result.refusal) core result.core tables.old tables.new store.old store.new × ((told_number result.refusal ≡ 0 → ⊥) → out.new ≡ out.old) }
 {
-    let refusal = gate_connected(core, tables, store.len(), out.len(), at);
-    if refusal == refusal::ACCEPTED {
-        let t = connect(central_answers::begin(core), tables, store, out, handle, at);
-        return central_answers::done(t);
+    if let Err(why) = gate_connected(core, tables, store.len(), out.len(), at) {
+        return central_answers::refuse(core, why);
     }
-    central_answers::refuse(core, refusal)
+    let t = connect(central_answers::begin(core), tables, store, out, handle, at);
+    central_answers::done(t)
 }
 
 // ---- a link goes
@@ -222,12 +223,11 @@ pub fn on_disconnected(
     at: Micros,
 ) -> QuietAnswer
     ensures store_after { quiet result tables.new store.new ≡ on_disconnected (central core tables.old) store.old at }
-    ensures refused { Leaves result.refusal core result.core tables.old tables.new store.old store.new }
+    ensures refused { Leaves (told_number result.refusal) core result.core tables.old tables.new store.old store.new }
 {
-    let refusal = state_fit::gate_quiet(core, tables, store.len(), at);
-    if refusal == refusal::ACCEPTED {
-        let left = lose(core, tables, store, at);
-        return central_answers::done_quietly(left);
+    if let Err(why) = state_fit::gate_quiet(core, tables, store.len(), at) {
+        return central_answers::refuse_quietly(core, why);
     }
-    central_answers::refuse_quietly(core, refusal)
+    let left = lose(core, tables, store, at);
+    central_answers::done_quietly(left)
 }

@@ -1,8 +1,8 @@
 -- The tests of the core and of the tables, joined, are fit; lengths of reports that are read from words fit by themselves.
-use Prim.Native.Nat.{ℕ, zero, suc, ◌≤◌, ◌<◌, ◌%◌, ◌/◌}
+use Prim.Native.Nat.{ℕ, zero, suc, ◌≤◌, ◌%◌, ◌/◌}
 use mathlib.Core.Path.{◌≡◌, refl, sym, ◌∙◌}
-use mathlib.Core.Bool.{Bool, true, false, not, ◌&&◌}
-use mathlib.Core.List.{List, [], ◌∷◌}
+use mathlib.Core.Bool.{Bool, true, false, ◌&&◌}
+use mathlib.Core.List.{List}
 use native.Mathlib.Omega.{arith}
 use lib.ListN.{take}
 use lib.Dec.{leb}
@@ -13,7 +13,6 @@ use Rattle.state_places.specs.Sizes.{most_steps, most_results, most_characterist
 use Rattle.gatt_characteristics.specs.Characteristic.{rises}
 use Rattle.notifications.specs.Kept.{values_fit, links_fit}
 use Rattle.state_rules.specs.Fit.{results_fit, steps_fit, lengths_fit, fits}
-use Rattle.state_rules.specs.Gate.{first_refusal}
 use Rattle.state_rules.proofs.FitLaws.{head_of, of-head, of-fit, unfit}
 use Rattle.words.specs.Table.{table_from}
 use Rattle.words.specs.Words.{bit_at, data_len_of, response_of}
@@ -22,7 +21,7 @@ use Rattle.state_core.specs.declared.Core.{Core}
 use Rattle.state_core.specs.Reading.{central}
 use Rattle.state_fit.specs.Parts.{core_fits, tables_fit}
 
-unfit-core : (c : Core) (w : List ℕ) → core_fits c ≡ false → false ≡ fits (central c w)
+pub unfit-core : (c : Core) (w : List ℕ) → core_fits c ≡ false → false ≡ fits (central c w)
 unfit-core c w e =
     sym (unfit (central c w) (core_fits c) (λ f. of-head c.counts c.counters c.bearer c.running c.reports c.key_count f.head) e)
 
@@ -76,12 +75,7 @@ module _ (c : Core) (w : List ℕ) (h : core_fits c ≡ true) where
   fit_words true true true true false e₁ e₂ e₃ e₄ e₅ =
       sym (unfit (central c w) (links_fit c.counters.links (take c.counts.notifications (notifications_in w))) (λ f. f.linked) (sym e₅))
 
--- ---- what the gates ask: x is what the core's test said
-
--- of a core that is not fit
-pub refused-core : (c : Core) (w : List ℕ) (x sized timely : Bool) → x ≡ core_fits c → x ≡ false → ◌≡◌ {A = ℕ} 1 (first_refusal (fits (central c w)) sized timely)
-unfolding first_refusal
-refused-core c w x sized timely e h = rw (← unfit-core c w (sym e ∙ h)) refl
+-- ---- x is what the core's test said
 
 module _ (c : Core) (x : Bool) (e : x ≡ core_fits c) (h : x ≡ true) where
   fit-core : core_fits c ≡ true

@@ -9,7 +9,6 @@ ghost use Rattle.state_core.specs.Reading.{central};
 
 use state::{Bearer, Running, StepStatus};
 use state_core::Core;
-use state_refusals::refusal;
 use time::Micros;
 
 #[derive(Clone, Copy)]
@@ -68,9 +67,8 @@ fn timer_of(r: Running) -> Timer
 pub fn timer_us(core: Core, tables: &[u64; 1152], store: &[u8]) -> Timer
     ensures { result ≡ timer (central core tables.now) (length store.now) }
 {
-    let why = state_fit::gate_reader(core, tables, store.len());
-    if why != refusal::ACCEPTED {
-        return Timer::Refused(why);
+    if let Err(why) = state_fit::gate_reader(core, tables, store.len()) {
+        return Timer::Refused(why.number());
     }
     let running = core.running;
     timer_of(running)
@@ -90,9 +88,8 @@ fn handle_of(b: Bearer) -> Handle
 pub fn connected_handle(core: Core, tables: &[u64; 1152], store: &[u8]) -> Handle
     ensures { result ≡ handle (central core tables.now) (length store.now) }
 {
-    let why = state_fit::gate_reader(core, tables, store.len());
-    if why != refusal::ACCEPTED {
-        return Handle::Refused(why);
+    if let Err(why) = state_fit::gate_reader(core, tables, store.len()) {
+        return Handle::Refused(why.number());
     }
     let bearer = core.bearer;
     handle_of(bearer)
@@ -133,9 +130,8 @@ fn find(tables: &[u64; 1152], count: usize, index: u32) -> Given
 pub fn result(core: Core, tables: &[u64; 1152], store: &[u8], index: u32) -> Given
     ensures { result ≡ result_answer (central core tables.now) (length store.now) index }
 {
-    let why = state_fit::gate_reader(core, tables, store.len());
-    if why != refusal::ACCEPTED {
-        return Given::Refused(why);
+    if let Err(why) = state_fit::gate_reader(core, tables, store.len()) {
+        return Given::Refused(why.number());
     }
     let counts = core.counts;
     find(tables, counts.results, index)
@@ -188,9 +184,8 @@ fn named(tables: &[u64; 1152], count: usize, first: u64, heard: u64) -> Passed
 pub fn passed_on(core: Core, tables: &[u64; 1152], store: &[u8], index: u32) -> Passed
     ensures { result ≡ passed_on (central core tables.now) (length store.now) index }
 {
-    let why = state_fit::gate_reader(core, tables, store.len());
-    if why != refusal::ACCEPTED {
-        return Passed::Refused(why);
+    if let Err(why) = state_fit::gate_reader(core, tables, store.len()) {
+        return Passed::Refused(why.number());
     }
     let counts = core.counts;
     let counters = core.counters;

@@ -1,6 +1,8 @@
 -- The refusal numbers (01, 'Refusal numbers, in order of test'), and the order of the first three.
-use Rattle.std.specs.Prelude.{ℕ, Bool}
+use Rattle.std.specs.Prelude.{ℕ, Bool, Option, None, Some, Result, Ok, Err, ⊤}
 use Rattle.bytes_base.specs.Choice.{pick}
+use Rattle.state_refusals.specs.declared.Refusal.{Refusal}
+use Rattle.state_refusals.specs.declared.Refusal.TheVariants.{Unfit, WrongSize, LateTime, BadBatch, CounterFull, LongData, LongFrame, KeysFull}
 
 -- not refused
 abbrev pub accepted : ℕ
@@ -41,3 +43,24 @@ keys_full = 8
 -- the first of 1 to 3 that applies: of the state, of what is lent, of the time
 unfoldable pub first_refusal : Bool → Bool → Bool → ℕ
 first_refusal fit sized timely = pick fit (pick sized (pick timely accepted late_time) wrong_size) unfit
+
+-- the number of each refusal
+abbrev pub number : Refusal → ℕ
+number Unfit = unfit
+number WrongSize = wrong_size
+number LateTime = late_time
+number BadBatch = bad_batch
+number CounterFull = counter_full
+number LongData = long_data
+number LongFrame = long_frame
+number KeysFull = keys_full
+
+-- the number of what a gate answers
+abbrev pub gate_number : Result ⊤ Refusal → ℕ
+gate_number (Ok u) = accepted
+gate_number (Err why) = number why
+
+-- the number of what a call tells
+abbrev pub told_number : Option Refusal → ℕ
+told_number None = accepted
+told_number (Some why) = number why

@@ -1,27 +1,64 @@
-// The refusal numbers, and which of them is given where more than one applies.
+// Why a call is refused, and which refusal is given where more than one applies.
 #![tactic(auto)]
 
 ghost use Rattle.std.specs.Prelude.{◌≡◌, ◌&&◌, ◌+◌, eqb, leb};
 ghost use Rattle.bytes_base.specs.Choice.{pick};
 ghost use Rattle.state_places.specs.Sizes.{store_size, output_size, frame_size};
-ghost use Rattle.state_refusals.specs.Refusals.{accepted, counter_full, long_frame, first_refusal};
+ghost use Rattle.state_refusals.specs.Refusals.{accepted, counter_full, long_frame, first_refusal, number, gate_number, told_number};
 
-pub mod refusal;
+// Why a call is refused, in order of test, under the numbers that C knows.
+#[derive(Clone, Copy, PartialEq, Eq)]
+pub enum Refusal {
+    // The state isn't fit.
+    Unfit = 1,
+    // The store or the output has another size.
+    WrongSize = 2,
+    // The time is above 2^62 µs.
+    LateTime = 3,
+    // A batch, or a step of it, is too large.
+    BadBatch = 4,
+    // A counter would pass its end.
+    CounterFull = 5,
+    // Advertising or scan response data is over 31 bytes.
+    LongData = 6,
+    // The held frame would exceed 251 bytes.
+    LongFrame = 7,
+    // A scan has asked 128 advertisers.
+    KeysFull = 8,
+}
+
+impl Refusal {
+    pub fn number(self) -> u8
+        ensures { result ≡ number self }
+    {
+        self as u8
+    }
+}
+
+// The number that a call tells: 0 if it is not refused.
+pub fn told_number(refusal: Option<Refusal>) -> u8
+    ensures { result ≡ told_number refusal }
+{
+    match refusal {
+        None => 0,
+        Some(why) => why.number(),
+    }
+}
 
 // Refusals 1 to 3: the first that applies.
-pub fn first_refusal(fit: bool, sized: bool, timely: bool) -> u8
-    ensures { result ≡ first_refusal fit sized timely }
+pub fn first_refusal(fit: bool, sized: bool, timely: bool) -> Result<(), Refusal>
+    ensures { gate_number result ≡ first_refusal fit sized timely }
 {
     if !fit {
-        return refusal::UNFIT;
+        return Err(Refusal::Unfit);
     }
     if !sized {
-        return refusal::WRONG_SIZE;
+        return Err(Refusal::WrongSize);
     }
     if !timely {
-        return refusal::LATE_TIME;
+        return Err(Refusal::LateTime);
     }
-    refusal::ACCEPTED
+    Ok(())
 }
 
 // Whether a call that may send is lent a store of the one size, and room for all frames.
@@ -42,14 +79,14 @@ pub fn frame_fits(there: usize, n: usize) -> bool
 }
 
 // Refusals 5 and 7 of a fragment, in their order.
-pub fn fragment_refusal(full: bool, fits: bool) -> u8
-    ensures { result ≡ pick full counter_full (pick fits accepted long_frame) }
+pub fn fragment_refusal(full: bool, fits: bool) -> Result<(), Refusal>
+    ensures { gate_number result ≡ pick full counter_full (pick fits accepted long_frame) }
 {
     if full {
-        return refusal::COUNTER_FULL;
+        return Err(Refusal::CounterFull);
     }
     if !fits {
-        return refusal::LONG_FRAME;
+        return Err(Refusal::LongFrame);
     }
-    refusal::ACCEPTED
+    Ok(())
 }

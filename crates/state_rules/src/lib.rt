@@ -9,7 +9,7 @@ ghost use Rattle.state_rules.specs.Parts.{step_fit, bearer_fits, head_fits};
 use att_pdu::op;
 use state::{Bearer, Counters, Counts, Running, Step};
 pub use state_counters::LAST_INDEX;
-pub use state_refusals::refusal;
+pub use state_refusals::Refusal;
 
 // The ATT_MTU that a held frame has room for.
 pub const MAX_MTU: u16 = 247;

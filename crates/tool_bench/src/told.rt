@@ -1,5 +1,6 @@
 // What a loop answers: what its calls gave, and what stands at its end. The harness has the same of the Rust.
 use state_core::Core;
+use state_refusals::Refusal;
 
 // A prime above 2^32.
 const PRIME: u64 = 4_294_967_311;
@@ -19,9 +20,9 @@ fn more(h: u64, x: u64) -> u64 {
 }
 
 // What a call gave.
-pub fn with_call(sum: u64, refusal: u8, given: usize) -> u64 {
+pub fn with_call(sum: u64, refusal: Option<Refusal>, given: usize) -> u64 {
     std::num::wrapping_add_u64(
-        std::num::wrapping_add_u64(sum, refusal as u64),
+        std::num::wrapping_add_u64(sum, state_refusals::told_number(refusal) as u64),
         given as u64,
     )
 }

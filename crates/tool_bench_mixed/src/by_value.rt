@@ -27,7 +27,7 @@ pub fn rounds(s: State, store: &mut [u8], out: &mut [u8], n: u32, data: &[u8]) -
         t = c.state;
         let action = a.action;
         sum = told::with_call(sum, a.refusal, hear::number_of(action));
-        sum = told::with_call(sum, b.refusal, c.refusal as usize);
+        sum = told::with_call(sum, b.refusal, state_refusals::told_number(c.refusal) as usize);
         who = hear::after(who, 64);
         i += 1;
     }

@@ -33,7 +33,7 @@ pub fn rounds(
         c = d.core;
         let action = a.action;
         sum = told::with_call(sum, a.refusal, hear::number_of(action));
-        sum = told::with_call(sum, b.refusal, d.refusal as usize);
+        sum = told::with_call(sum, b.refusal, state_refusals::told_number(d.refusal) as usize);
         who = hear::after(who, 64);
         i += 1;
     }

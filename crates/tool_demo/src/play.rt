@@ -4,7 +4,7 @@ use central::{Advertised, Answer, QuietAnswer, State};
 use radio_match::AdvAction;
 use state::{Address, LinkRequest, Sent};
 use state_readers::Timer;
-use state_refusals::refusal;
+use state_refusals::Refusal;
 use story::{Happening, Part, What};
 use time::Micros;
 
@@ -55,7 +55,7 @@ pub struct Turn {
     pub night: Night,
     pub happening: Happening,
     pub action: AdvAction,
-    pub refusal: u8,
+    pub refusal: Option<Refusal>,
     pub sent: Sent,
 }
 
@@ -64,7 +64,7 @@ pub struct Turn {
 struct Did {
     state: State,
     action: AdvAction,
-    refusal: u8,
+    refusal: Option<Refusal>,
     sent: Sent,
 }
 
@@ -126,7 +126,7 @@ fn heard(s: State, store: &mut [u8], out: &mut [u8], now: Micros, frame: &[u8]) 
     if frame.len() <= FRAGMENT {
         return a;
     }
-    if a.refusal != refusal::ACCEPTED {
+    if a.refusal.is_some() {
         return a;
     }
     let held = a.state;

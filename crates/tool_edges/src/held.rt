@@ -1,6 +1,7 @@
 // What is held of a frame is 251 bytes at most; with more it is refused and dropped.
 use crate::known;
 use central::{Answer, State};
+use state_refusals::Refusal;
 use time::Micros;
 
 const LONGEST: usize = 251;
@@ -66,7 +67,7 @@ fn rest(s: State) -> u64 {
     known::number(o)
 }
 
-fn tell(i: u32, why: u8, held: usize, notified: u64, state: bool) {
+fn tell(i: u32, why: Option<Refusal>, held: usize, notified: u64, state: bool) {
     text(i);
     known::refusal(why);
     tool_say::told(b", held ", held as u64, b"");

@@ -4,6 +4,7 @@ use central::State;
 use notifications::Age;
 use state::Step;
 use state_readers::Given;
+use state_refusals::Refusal;
 use time::{Micros, Millis};
 
 const AWAITED: [u8; 2] = [0x52, 0x45];
@@ -21,7 +22,7 @@ const WAIT: Step = Step::WaitNotification {
     age: Age::Any,
 };
 
-fn begun(bytes: &[u8], why: u8) {
+fn begun(bytes: &[u8], why: Option<Refusal>) {
     tool_say::told(
         b"A wait on handle ",
         known::LEVEL_HANDLE as u64,
@@ -43,8 +44,8 @@ fn begin(store: &mut [u8], out: &mut [u8]) -> State {
 }
 
 // Whether the wait is over.
-fn told(why: u8, g: Given, store: &[u8]) {
-    tool_say::told(b"    refusal ", why as u64, b"\n");
+fn told(why: Option<Refusal>, g: Given, store: &[u8]) {
+    tool_say::told(b"    refusal ", state_refusals::told_number(why) as u64, b"\n");
     if !tool_tells::result(0, g, store) {
         tool_say::line(b"    step 0 waits on");
     }

@@ -3,6 +3,7 @@ use crate::known;
 use central::State;
 use radio_match::AdvAction;
 use state::{Address, Step};
+use state_refusals::Refusal;
 use time::{Micros, Millis};
 
 const ADV_IND: u8 = 0;
@@ -134,7 +135,7 @@ fn pdu(i: u32) -> u8 {
     if i < 3 { ADV_IND } else { ADV_NONCONN_IND }
 }
 
-fn tell(i: u32, why: u8, asked: u64, state: bool, store: bool) {
+fn tell(i: u32, why: Option<Refusal>, asked: u64, state: bool, store: bool) {
     text(i);
     known::refusal(why);
     if asked == 0 {

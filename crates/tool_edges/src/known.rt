@@ -2,6 +2,7 @@
 use central::{Answer, State};
 use script_rules::{Batch, Placed};
 use state::Step;
+use state_refusals::Refusal;
 use time::Micros;
 use uuid_value::Uuid;
 
@@ -66,8 +67,8 @@ pub fn number(s: State) -> u64 {
     tool_digest::of_state(s.core, &tables)
 }
 
-pub fn refusal(why: u8) {
-    tool_say::told(b": refusal ", why as u64, b"");
+pub fn refusal(why: Option<Refusal>) {
+    tool_say::told(b": refusal ", state_refusals::told_number(why) as u64, b"");
 }
 
 // Whether something is what it was.

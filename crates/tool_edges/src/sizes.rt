@@ -2,6 +2,7 @@
 use crate::known;
 use central::Answer;
 use state::Step;
+use state_refusals::Refusal;
 use time::{Micros, Millis};
 
 const WAIT: Step = Step::Wait { ms: Millis(1) };
@@ -11,7 +12,7 @@ const WRITE: Step = Step::Write {
     with_response: true,
 };
 
-fn tell(what: &[u8], why: u8, waiting: usize, state: bool, store: bool) {
+fn tell(what: &[u8], why: Option<Refusal>, waiting: usize, state: bool, store: bool) {
     tool_say::text(what);
     known::refusal(why);
     tool_say::told(b", waiting ", waiting as u64, b"");

@@ -3,6 +3,7 @@ use crate::known;
 use central::{Answer, State};
 use state::{Sent, Step};
 use state_readers::Given;
+use state_refusals::Refusal;
 use time::Micros;
 
 const VALUE: [u8; 21] = [
@@ -20,7 +21,7 @@ fn mtu_of(s: State) -> u16 {
 }
 
 // What the call told, and how step 0 ended, if it did.
-fn ended(why: u8, sent: Sent, out: &[u8], g: Given, store: &[u8]) {
+fn ended(why: Option<Refusal>, sent: Sent, out: &[u8], g: Given, store: &[u8]) {
     known::refusal(why);
     tool_say::told(b", frames ", sent.frames as u64, b"\n");
     tool_tells::sent(sent, out);

@@ -3,6 +3,7 @@ use crate::{fresh, tell};
 use central_answers::Answer;
 use state::{LinkRequest, Options, Sent};
 use state_core::Core;
+use state_refusals::Refusal;
 use time::Micros;
 use tool_traces::{record, steps};
 
@@ -100,7 +101,7 @@ fn read(
 
 // ---- the calls that change the state
 
-fn quiet(core: Core, refusal: u8) -> Answer {
+fn quiet(core: Core, refusal: Option<Refusal>) -> Answer {
     Answer {
         core,
         refusal,
@@ -111,7 +112,7 @@ fn quiet(core: Core, refusal: u8) -> Answer {
 // The store and the output keep their bytes at a fresh state: no answer may depend on them.
 fn begin(tables: &mut [u64; 1152], options: Options) -> Answer {
     fresh::clear(tables);
-    quiet(fresh::core(options), 0)
+    quiet(fresh::core(options), None)
 }
 
 // One bit an option: the lowest is strict.

@@ -2,6 +2,7 @@
 use radio_match::AdvAction;
 use state::Sent;
 use state_core::Core;
+use state_refusals::Refusal;
 use state_readers::{Given, Handle, Passed, Timer};
 use tool_lines::line;
 use tool_traces::record;
@@ -63,14 +64,14 @@ pub fn passed(to: &mut [u8], p: Passed, store: &[u8]) -> bool {
 
 // ---- the calls that change the state
 
-fn refusal(to: &mut [u8], name: &[u8], refusal: u8) -> bool {
+fn refusal(to: &mut [u8], name: &[u8], refusal: Option<Refusal>) -> bool {
     let n = line::text(to, 0, name);
-    let m = line::number(to, n, refusal as u64);
+    let m = line::number(to, n, state_refusals::told_number(refusal) as u64);
     line::end(to, m)
 }
 
-fn sending(to: &mut [u8], name: &[u8], why: u8, sent: Sent, out: &[u8]) -> bool {
-    if why != 0 {
+fn sending(to: &mut [u8], name: &[u8], why: Option<Refusal>, sent: Sent, out: &[u8]) -> bool {
+    if why.is_some() {
         return refusal(to, name, why);
     }
     let n = line::text(to, 0, name);
@@ -78,14 +79,14 @@ fn sending(to: &mut [u8], name: &[u8], why: u8, sent: Sent, out: &[u8]) -> bool 
     line::end(to, m)
 }
 
-pub fn advertised(to: &mut [u8], why: u8, a: AdvAction) -> bool {
+pub fn advertised(to: &mut [u8], why: Option<Refusal>, a: AdvAction) -> bool {
     let n = line::text(to, 0, b"advertising");
-    let m = tool_rows::advertised(to, n, why, a);
+    let m = tool_rows::advertised(to, n, state_refusals::told_number(why), a);
     line::end(to, m)
 }
 
 // The record's tag tells which call was made.
-pub fn answer(to: &mut [u8], tag: u8, why: u8, sent: Sent, out: &[u8]) -> bool {
+pub fn answer(to: &mut [u8], tag: u8, why: Option<Refusal>, sent: Sent, out: &[u8]) -> bool {
     match tag {
         record::FRESH => line::whole(to, b"fresh"),
         record::FRESH_WITH => line::whole(to, b"fresh_with"),

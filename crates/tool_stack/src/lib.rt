@@ -39,7 +39,7 @@ pub extern "C" fn stack_push_steps(
 ) -> u8 {
     let core = begun::pushed(checks);
     let steps = begun::batch(checks);
-    script_batch::push_steps(core, tables, store, out, NOW, steps, values).refusal
+    state_refusals::told_number(script_batch::push_steps(core, tables, store, out, NOW, steps, values).refusal)
 }
 
 #[unsafe(no_mangle)]
@@ -49,7 +49,7 @@ pub extern "C" fn stack_on_timer(
     store: &mut [u8],
     out: &mut [u8],
 ) -> u8 {
-    script_events::on_timer(begun::timed(checks), tables, store, out, NOW).refusal
+    state_refusals::told_number(script_events::on_timer(begun::timed(checks), tables, store, out, NOW).refusal)
 }
 
 #[unsafe(no_mangle)]
@@ -59,13 +59,13 @@ pub extern "C" fn stack_on_connected(
     store: &mut [u8],
     out: &mut [u8],
 ) -> u8 {
-    script_events::on_connected(begun::connected(checks), tables, store, out, 64, NOW).refusal
+    state_refusals::told_number(script_events::on_connected(begun::connected(checks), tables, store, out, 64, NOW).refusal)
 }
 
 #[unsafe(no_mangle)]
 pub extern "C" fn stack_on_disconnected(tables: &mut [u64; 1152], store: &mut [u8]) -> u8 {
     let core = begin::core(row::talking(0));
-    script_events::on_disconnected(core, tables, store, NOW).refusal
+    state_refusals::told_number(script_events::on_disconnected(core, tables, store, NOW).refusal)
 }
 
 #[unsafe(no_mangle)]
@@ -77,7 +77,7 @@ pub extern "C" fn stack_on_fragment(
     frame: &[u8],
 ) -> u8 {
     let core = begin::core(row::talking(row));
-    link_call::on_fragment(core, tables, store, out, NOW, true, frame).refusal
+    state_refusals::told_number(link_call::on_fragment(core, tables, store, out, NOW, true, frame).refusal)
 }
 
 #[unsafe(no_mangle)]
@@ -86,7 +86,7 @@ pub extern "C" fn stack_on_advertising(
     store: &mut [u8],
     data: &[u8],
 ) -> u8 {
-    radio_calls::on_advertising(
+    let a = radio_calls::on_advertising(
         begin::core(begun::connecting()),
         tables,
         store,
@@ -96,8 +96,8 @@ pub extern "C" fn stack_on_advertising(
         hear::address(99),
         data,
         false,
-    )
-    .refusal
+    );
+    state_refusals::told_number(a.refusal)
 }
 
 #[unsafe(no_mangle)]
@@ -107,7 +107,7 @@ pub extern "C" fn stack_on_scan_response(
     data: &[u8],
 ) -> u8 {
     let core = begin::core(begun::connecting());
-    radio_calls::on_scan_response(core, tables, store, NOW, hear::address(0), data).refusal
+    state_refusals::told_number(radio_calls::on_scan_response(core, tables, store, NOW, hear::address(0), data).refusal)
 }
 
 // ---- the readers

@@ -1,6 +1,6 @@
 // Numbers that stand for reasons, in words.
 use state::StepStatus;
-use state_refusals::refusal;
+use state_refusals::Refusal;
 
 // Core Vol 1 Part F 1.3.
 const REMOTE_USER_TERMINATED: u8 = 0x13;
@@ -51,28 +51,26 @@ pub fn att_error(x: u8) {
 }
 
 // Why a call is refused.
-fn why(x: u8) {
+fn why(x: Refusal) {
     match x {
-        refusal::UNFIT => tool_say::text(b"the state is not fit"),
-        refusal::WRONG_SIZE => tool_say::text(b"store or output of another size"),
-        refusal::LATE_TIME => tool_say::text(b"the time is above 2^62 microseconds"),
-        refusal::BAD_BATCH => tool_say::text(b"a batch, or a step of it, is too large"),
-        refusal::COUNTER_FULL => tool_say::text(b"a counter is at its end"),
-        refusal::LONG_DATA => tool_say::text(b"data of over 31 bytes"),
-        refusal::LONG_FRAME => tool_say::text(b"a frame of over 251 bytes"),
-        refusal::KEYS_FULL => tool_say::text(b"128 advertisers were asked"),
-        _ => tool_say::text(b"another reason"),
+        Refusal::Unfit => tool_say::text(b"the state is not fit"),
+        Refusal::WrongSize => tool_say::text(b"store or output of another size"),
+        Refusal::LateTime => tool_say::text(b"the time is above 2^62 microseconds"),
+        Refusal::BadBatch => tool_say::text(b"a batch, or a step of it, is too large"),
+        Refusal::CounterFull => tool_say::text(b"a counter is at its end"),
+        Refusal::LongData => tool_say::text(b"data of over 31 bytes"),
+        Refusal::LongFrame => tool_say::text(b"a frame of over 251 bytes"),
+        Refusal::KeysFull => tool_say::text(b"128 advertisers were asked"),
     }
 }
 
 // A refusal, where there is one.
-pub fn refused(x: u8) {
-    if x == refusal::ACCEPTED {
-        return;
+pub fn refused(x: Option<Refusal>) {
+    if let Some(refusal) = x {
+        tool_say::told(b"    refused by ", refusal.number() as u64, b": ");
+        why(refusal);
+        tool_say::line(b"");
     }
-    tool_say::told(b"    refused by ", x as u64, b": ");
-    why(x);
-    tool_say::line(b"");
 }
 
 fn failed(s: StepStatus) {

@@ -1,5 +1,4 @@
 use Rattle.state_refusals.specs.Refusals.{first_refusal}
-use borrow.Author.Tests.{not-true, not-false}
 use Rattle.state_refusals.proofs.first_refusal.Goals as goal
 
 pub returns-then-not-fit : goal.returns-then-not-fit
