@@ -60,12 +60,12 @@ fn equal_at(data: &[u8], at: usize, width: usize, uuid: Uuid) -> bool
     ensures { result ≡ eqb (uuid_of width (take width (drop at «data».now))) (num uuid) }
 {
     if width == WIDTH_128 {
-        return Uuid::from_128(data, at).equals(uuid);
+        return Uuid::from_128(data, at) == uuid;
     }
     if width == WIDTH_32 {
-        return Uuid::from_u32(bytes_numbers::le32(data, at)).equals(uuid);
+        return Uuid::from_u32(bytes_numbers::le32(data, at)) == uuid;
     }
-    Uuid::from_u16(bytes_numbers::le16(data, at)).equals(uuid)
+    Uuid::from_u16(bytes_numbers::le16(data, at)) == uuid
 }
 
 // What is known behind a list of this kind that does not have the service. Each width has an even kind for an incomplete list.

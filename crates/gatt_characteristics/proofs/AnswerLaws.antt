@@ -12,8 +12,6 @@ use borrow.Author.Tests.{le-leb, lt-leb}
 use Rattle.bytes_base.specs.Bytes.{le_at}
 use Rattle.uuid_value.specs.Value.{att_uuid}
 use Rattle.uuid_value.specs.declared.Uuid.{Uuid}
-use Rattle.uuid_value.specs.declared.Read as read
-use Rattle.uuid_value.specs.declared.Read.TheVariants as read-variants
 use Rattle.lists.specs.Cut.{entries, part}
 use Rattle.lists.specs.Queue.{onto}
 use Rattle.lists.specs.Taken.{Have, have, taken}
@@ -28,8 +26,8 @@ use Rattle.gatt_characteristics.proofs.ArrayLaws.{enter-replaces, enter-inserts,
 
 -- ---- what the bytes of an entry tell, read where they stand
 
-module _ (s : List ℕ) (a b : ℕ) (r : read.Read) (h : a + 5 ≤ b) (e : r ≡ att_uuid (part (a + 5) b s)) where
-  pub told_is : (x y : ℕ) (u : Uuid) → b ≤ length s → x ≡ le_at 2 s a → y ≡ le_at 2 s (a + 3) → r ≡ read-variants.Is u
+module _ (s : List ℕ) (a b : ℕ) (r : Option Uuid) (h : a + 5 ≤ b) (e : r ≡ att_uuid (part (a + 5) b s)) where
+  pub told_is : (x y : ℕ) (u : Uuid) → b ≤ length s → x ≡ le_at 2 s a → y ≡ le_at 2 s (a + 3) → r ≡ Some u
       → Some (record { declaration = x; properties = get_or s (a + 2) 0; value_handle = y; uuid = u; cccd = None }) ≡ told (part a b s)
   unfolding told
   told_is x y u g e₁ e₂ e₃ =
@@ -44,7 +42,7 @@ module _ (s : List ℕ) (a b : ℕ) (r : read.Read) (h : a + 5 ≤ b) (e : r ≡
         e₂,
       )
 
-  pub told-not : r ≡ read-variants.Nothing → None ≡ told (part a b s)
+  pub told-not : r ≡ None → None ≡ told (part a b s)
   unfolding told
   told-not e₃ = rw (drop-part a b 5 s h, ← e, e₃)
 

@@ -5,8 +5,6 @@ use Rattle.bytes_base.specs.Choice.{pick}
 use Rattle.bytes_base.specs.Bytes.{le_at}
 use Rattle.uuid_value.specs.Value.{num, att_uuid}
 use Rattle.uuid_value.specs.declared.Uuid.{Uuid}
-use Rattle.uuid_value.specs.declared.Read as read
-use Rattle.uuid_value.specs.declared.Read.TheVariants as read-variants
 use Rattle.state_places.specs.Sizes.{most_characteristics}
 use Rattle.lists.specs.Queue.{onto}
 use Rattle.lists.specs.First.{first}
@@ -72,10 +70,10 @@ abbrev pub declaration_of : List ℕ → ℕ
 declaration_of e = le_at 2 e 0
 
 -- by what its UUID bytes are
-abbrev pub told_by : List ℕ → read.Read → Option Characteristic
-told_by e (read-variants.Is u) =
+abbrev pub told_by : List ℕ → Option Uuid → Option Characteristic
+told_by e (Some u) =
     Some (record { declaration = declaration_of e; properties = get_or e 2 0; value_handle = le_at 2 e 3; uuid = u; cccd = None })
-told_by e read-variants.Nothing = None
+told_by e None = None
 
 -- the characteristic that an entry tells of, if its UUID has 2 or 16 bytes
 unfoldable pub told : List ℕ → Option Characteristic

@@ -50,14 +50,14 @@ fn told_at(s: &[u8], a: usize, b: usize) -> Option<Characteristic>
     let properties = s[a + PROPERTIES_AT];
     let value_handle = bytes_numbers::le16(s, a + VALUE_AT);
     match Uuid::from_att(&s[a + UUID_AT..b]) {
-        uuid_value::Read::Is(uuid) => Some(Characteristic {
+        Some(uuid) => Some(Characteristic {
             declaration,
             properties,
             value_handle,
             uuid,
             cccd: None,
         }),
-        uuid_value::Read::Nothing => None,
+        None => None,
     }
 }
 

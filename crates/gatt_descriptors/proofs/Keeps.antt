@@ -9,9 +9,8 @@ use lib.ListN.{length, drop}
 use lib.Seq.{length-take-le}
 use lib.Dec.{eqb, ltb}
 use Rattle.bytes_base.specs.Choice.{pick}
+use Rattle.uuid_value.specs.declared.Uuid.{Uuid}
 use Rattle.uuid_value.specs.Value.{num, short_of, att_uuid}
-use Rattle.uuid_value.specs.declared.Read as read
-use Rattle.uuid_value.specs.declared.Read.TheVariants as read-variants
 use Rattle.lists.proofs.TableLaws.{take-onto}
 use Rattle.gatt_characteristics.specs.Characteristic.{known, Up, Rising}
 use Rattle.gatt_characteristics.specs.declared.Characteristic.{Characteristic}
@@ -40,13 +39,13 @@ given-rising : (l : List Characteristic) (e : List ℕ) → Rising l → Rising 
 unfolding given
 given-rising l e u = go (att_uuid (drop 2 e))
   where
-    go : (r : read.Read) → Rising (give_by l (handle_of e) r)
-    go (read-variants.Is w) = by (eqb (num w) (num (short_of cccd_type)))
+    go : (r : Option Uuid) → Rising (give_by l (handle_of e) r)
+    go (Some w) = by (eqb (num w) (num (short_of cccd_type)))
       where
         by : (b : Bool) → Rising (pick b (give (handle_of e) l) l)
         by true = give-up (handle_of e) 0 l u
         by false = u
-    go read-variants.Nothing = u
+    go None = u
 
 given_all-rising : (l : List Characteristic) (es : List (List ℕ)) → Rising l → Rising (given_all l es)
 unfolding given_all

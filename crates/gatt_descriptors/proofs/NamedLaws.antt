@@ -8,12 +8,11 @@ use native.Mathlib.Omega.{arith}
 use lib.ListN.{length, drop}
 use lib.Seq.{length-take-le}
 use lib.Dec.{eqb}
+use Rattle.std.specs.Prelude.{Option, Some, None}
 use Rattle.bytes_base.specs.Choice.{pick}
 use Rattle.bytes_base.specs.Bytes.{le_at}
 use Rattle.uuid_value.specs.Value.{num, short_of, att_uuid}
 use Rattle.uuid_value.specs.declared.Uuid.{Uuid}
-use Rattle.uuid_value.specs.declared.Read as read
-use Rattle.uuid_value.specs.declared.Read.TheVariants as read-variants
 use Rattle.lists.specs.Cut.{entries, part}
 use Rattle.lists.proofs.CutLaws.{entry_here, entry-end, drop-part, le_at-part}
 use Rattle.lists.proofs.TableLaws.{onto-onto, take-onto, length-onto}
@@ -30,8 +29,8 @@ mark-new h c e = rw e
 
 -- ---- one entry, read where it stands
 
-module _ (t : Characteristics) (s : List ℕ) (a b : ℕ) (r : read.Read) (p : a + 2 ≤ b) (er : r ≡ att_uuid (part (a + 2) b s)) where
-  module _ (u v : Uuid) (y : Bool) (ei : r ≡ read-variants.Is u) (ev : v ≡ short_of cccd_type) (ey : y ≡ eqb (num u) (num v)) where
+module _ (t : Characteristics) (s : List ℕ) (a b : ℕ) (r : Option Uuid) (p : a + 2 ≤ b) (er : r ≡ att_uuid (part (a + 2) b s)) where
+  module _ (u v : Uuid) (y : Bool) (ei : r ≡ Some u) (ev : v ≡ short_of cccd_type) (ey : y ≡ eqb (num u) (num v)) where
     tests : eqb (num u) (num (short_of cccd_type)) ≡ y
     tests = ap (λ (w : Uuid). eqb (num u) (num w)) (sym ev) ∙ sym ey
 
@@ -45,7 +44,7 @@ module _ (t : Characteristics) (s : List ℕ) (a b : ℕ) (r : read.Read) (p : a
     unfolding given
     entry_other c k e = rw (drop-part a b 2 s p, ← er, ei, tests, e) (sym (holding-known t c k))
 
-  pub entry-no-uuid : t.count ≤ 64 → length t.kept ≡ 64 → r ≡ read-variants.Nothing → t ≡ holding t (given (known t) (part a b s))
+  pub entry-no-uuid : t.count ≤ 64 → length t.kept ≡ 64 → r ≡ None → t ≡ holding t (given (known t) (part a b s))
   unfolding given
   entry-no-uuid c k ei = rw (drop-part a b 2 s p, ← er, ei) (sym (holding-known t c k))
 
@@ -53,13 +52,13 @@ pub length-given : (l : List Characteristic) (e : List ℕ) → length (given l 
 unfolding given
 length-given l e = go (att_uuid (drop 2 e))
   where
-    go : (r : read.Read) → length (give_by l (handle_of e) r) ≡ length l
-    go (read-variants.Is u) = by (eqb (num u) (num (short_of cccd_type)))
+    go : (r : Option Uuid) → length (give_by l (handle_of e) r) ≡ length l
+    go (Some u) = by (eqb (num u) (num (short_of cccd_type)))
       where
         by : (b : Bool) → length (pick b (give (handle_of e) l) l) ≡ length l
         by true = length-give (handle_of e) l
         by false = refl
-    go read-variants.Nothing = refl
+    go None = refl
 
 pub length-given_all : (l : List Characteristic) (es : List (List ℕ)) → length (given_all l es) ≡ length l
 unfolding given_all

@@ -3,9 +3,8 @@
 use Rattle.std.specs.Prelude.{ℕ, ◌+◌, Bool, true, false, List, [], ◌∷◌, drop, eqb, ltb, Option, Some, None}
 use Rattle.bytes_base.specs.Choice.{pick}
 use Rattle.bytes_base.specs.Bytes.{le_at}
+use Rattle.uuid_value.specs.declared.Uuid.{Uuid}
 use Rattle.uuid_value.specs.Value.{num, short_of, att_uuid}
-use Rattle.uuid_value.specs.declared.Read as read
-use Rattle.uuid_value.specs.declared.Read.TheVariants as read-variants
 use Rattle.lists.specs.First.{first}
 use Rattle.gatt_characteristics.specs.Characteristic.{known, holding}
 use Rattle.gatt_characteristics.specs.declared.Characteristic.{Characteristic}
@@ -41,9 +40,9 @@ abbrev pub handle_of : List ℕ → ℕ
 handle_of e = le_at 2 e 0
 
 -- by what its type is
-abbrev pub give_by : List Characteristic → ℕ → read.Read → List Characteristic
-give_by l h (read-variants.Is u) = pick (eqb (num u) (num (short_of cccd_type))) (give h l) l
-give_by l h read-variants.Nothing = l
+abbrev pub give_by : List Characteristic → ℕ → Option Uuid → List Characteristic
+give_by l h (Some u) = pick (eqb (num u) (num (short_of cccd_type))) (give h l) l
+give_by l h None = l
 
 -- the list once an entry is read: only a CCCD is of interest
 unfoldable pub given : List Characteristic → List ℕ → List Characteristic

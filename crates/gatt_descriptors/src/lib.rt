@@ -69,13 +69,13 @@ fn name_one(t: Characteristics, s: &[u8], a: usize, b: usize) -> Characteristics
 {
     let h = bytes_numbers::le16(s, a);
     match Uuid::from_att(&s[a + TYPE_AT..b]) {
-        uuid_value::Read::Is(u) => {
-            if u.equals(Uuid::from_u16(CCCD)) {
+        Some(u) => {
+            if u == Uuid::from_u16(CCCD) {
                 return give_to(t, h);
             }
             t
         }
-        uuid_value::Read::Nothing => t,
+        None => t,
     }
 }
 

@@ -12,8 +12,6 @@ use borrow.Author.Tests.{le-leb, lt-leb}
 use Rattle.bytes_base.specs.Bytes.{le_at}
 use Rattle.uuid_value.specs.Value.{att_uuid}
 use Rattle.uuid_value.specs.declared.Uuid.{Uuid}
-use Rattle.uuid_value.specs.declared.Read as read
-use Rattle.uuid_value.specs.declared.Read.TheVariants as read-variants
 use Rattle.lists.specs.Cut.{entries, part}
 use Rattle.lists.specs.Queue.{onto}
 use Rattle.lists.specs.Taken.{Have, have, taken}
@@ -26,14 +24,14 @@ use Rattle.gatt_services.specs.declared.Services.{Services}
 
 -- ---- what the bytes of an entry tell, read where they stand
 
-module _ (s : List ℕ) (a b : ℕ) (r : read.Read) (h : a + 4 ≤ b) (e : r ≡ att_uuid (part (a + 4) b s)) where
-  pub told_is : (x y : ℕ) (u : Uuid) → b ≤ length s → x ≡ le_at 2 s a → y ≡ le_at 2 s (a + 2) → r ≡ read-variants.Is u
+module _ (s : List ℕ) (a b : ℕ) (r : Option Uuid) (h : a + 4 ≤ b) (e : r ≡ att_uuid (part (a + 4) b s)) where
+  pub told_is : (x y : ℕ) (u : Uuid) → b ≤ length s → x ≡ le_at 2 s a → y ≡ le_at 2 s (a + 2) → r ≡ Some u
       → Some (record { start = x; end = y; uuid = u }) ≡ told (part a b s)
   unfolding told
   told_is x y u g e₁ e₂ e₃ =
       rw (← le_at-part 2 a b 0 a s (omega arith) (omega arith) g, ← le_at-part 2 a b 2 (a + 2) s refl (omega arith) g, drop-part a b 4 s h, ← e, e₃, e₁, e₂)
 
-  pub told-not : r ≡ read-variants.Nothing → None ≡ told (part a b s)
+  pub told-not : r ≡ None → None ≡ told (part a b s)
   unfolding told
   told-not e₃ = rw (drop-part a b 4 s h, ← e, e₃)
 

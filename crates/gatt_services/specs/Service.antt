@@ -5,8 +5,6 @@ use Rattle.bytes_base.specs.Bytes.{le_at}
 pub use Rattle.att_pdu.specs.Numbers.{last_handle}
 use Rattle.uuid_value.specs.Value.{num, att_uuid}
 use Rattle.uuid_value.specs.declared.Uuid.{Uuid}
-use Rattle.uuid_value.specs.declared.Read as read
-use Rattle.uuid_value.specs.declared.Read.TheVariants as read-variants
 use Rattle.state_places.specs.Sizes.{most_services}
 use Rattle.lists.specs.Queue.{onto}
 use Rattle.lists.specs.First.{first}
@@ -42,9 +40,9 @@ abbrev pub end_of : List ℕ → ℕ
 end_of e = le_at 2 e 2
 
 -- by what its UUID bytes are
-abbrev pub told_by : ℕ → ℕ → read.Read → Option Service
-told_by s n (read-variants.Is u) = Some (record { start = s; end = n; uuid = u })
-told_by s n read-variants.Nothing = None
+abbrev pub told_by : ℕ → ℕ → Option Uuid → Option Service
+told_by s n (Some u) = Some (record { start = s; end = n; uuid = u })
+told_by s n None = None
 
 -- the service that an entry tells of, if its UUID has 2 or 16 bytes
 unfoldable pub told : List ℕ → Option Service

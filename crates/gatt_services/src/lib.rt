@@ -44,8 +44,8 @@ fn told_at(s: &[u8], a: usize, b: usize) -> Option<Service>
     let start = bytes_numbers::le16(s, a);
     let end = bytes_numbers::le16(s, a + END_AT);
     match Uuid::from_att(&s[a + UUID_AT..b]) {
-        uuid_value::Read::Is(uuid) => Some(Service { start, end, uuid }),
-        uuid_value::Read::Nothing => None,
+        Some(uuid) => Some(Service { start, end, uuid }),
+        None => None,
     }
 }
 

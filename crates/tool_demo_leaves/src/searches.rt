@@ -1,5 +1,5 @@
 // The name and the services of an advertisement, as the library finds them.
-use uuid_value::{Read, Uuid};
+use uuid_value::Uuid;
 
 fn name(what: &[u8], data: &[u8]) {
     tool_say::text(what);
@@ -40,7 +40,7 @@ pub fn service<'a>(named: &[u8], data: &'a [u8], response: &'a [u8]) {
     tool_say::text(b"  Service ");
     tool_say::text(named);
     match uuid_text::parse(named) {
-        Read::Is(u) => find(data, response, u),
-        Read::Nothing => tool_say::line(b": that is no UUID"),
+        Some(u) => find(data, response, u),
+        None => tool_say::line(b": that is no UUID"),
     }
 }

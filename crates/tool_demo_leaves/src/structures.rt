@@ -1,5 +1,5 @@
 // Advertising data taken apart, structure by structure.
-use uuid_value::{Read, Uuid};
+use uuid_value::Uuid;
 
 // Bytes of each UUID that a structure of the kind lists, or 0 (Core Supplement Part A 1.1).
 fn width_of(kind: u8) -> usize {
@@ -40,9 +40,9 @@ fn tell_kind(kind: u8) {
     }
 }
 
-fn uuid_of(entry: &[u8]) -> Read {
+fn uuid_of(entry: &[u8]) -> Option<Uuid> {
     if entry.len() == 4 {
-        return Read::Is(Uuid::from_u32(bytes_numbers::le32(entry, 0)));
+        return Some(Uuid::from_u32(bytes_numbers::le32(entry, 0)));
     }
     Uuid::from_att(entry)
 }
@@ -50,8 +50,8 @@ fn uuid_of(entry: &[u8]) -> Read {
 fn tell_uuid(entry: &[u8]) {
     tool_say::text(b"            service ");
     match uuid_of(entry) {
-        Read::Is(u) => tool_say::uuid(u),
-        Read::Nothing => (),
+        Some(u) => tool_say::uuid(u),
+        None => (),
     }
     tool_say::line(b"");
 }

@@ -10,7 +10,7 @@ ghost use Rattle.adv_name.specs.Name.{local_name};
 ghost use Rattle.collector.specs.Found.{start_of, count_of};
 ghost use Rattle.tool_leaf_exports.specs.Answer.{is_uuid, low_of, high_of, is_place};
 
-use uuid_value::{Read, Uuid};
+use uuid_value::Uuid;
 
 // The halves of the UUID that text is; both places keep what they held where it is none.
 #[unsafe(no_mangle)]
@@ -20,12 +20,12 @@ pub extern "C" fn leaf_parse(text: &[u8], low: &mut u64, high: &mut u64) -> bool
     ensures high_after { high.new ≡ high_of (parse_uuid text.now) high.old }
 {
     match uuid_text::parse(text) {
-        Read::Is(named) => {
+        Some(named) => {
             *low = named.low;
             *high = named.high;
             true
         }
-        Read::Nothing => false,
+        None => false,
     }
 }
 
@@ -37,12 +37,12 @@ pub extern "C" fn leaf_from_att(bytes: &[u8], low: &mut u64, high: &mut u64) -> 
     ensures high_after { high.new ≡ high_of (att_uuid bytes.now) high.old }
 {
     match Uuid::from_att(bytes) {
-        Read::Is(carried) => {
+        Some(carried) => {
             *low = carried.low;
             *high = carried.high;
             true
         }
-        Read::Nothing => false,
+        None => false,
     }
 }
 

@@ -1,6 +1,6 @@
 // One row of the recorded list: a kind, the input's length in two bytes, the input, the answer's length in one byte, the Rust's
 // answer. oracle/record has the kinds and says how the list was made.
-use uuid_value::{Read, Uuid};
+use uuid_value::Uuid;
 
 pub const PARSE: u8 = 1;
 
@@ -27,15 +27,15 @@ pub enum Row {
 }
 
 // No bytes for no UUID, else its 16 bytes, the least significant first.
-fn same_uuid(read: Read, answer: &[u8]) -> bool {
+fn same_uuid(read: Option<Uuid>, answer: &[u8]) -> bool {
     match read {
-        Read::Is(u) => {
+        Some(u) => {
             if answer.len() != UUID_LEN {
                 return false;
             }
             (bytes_numbers::le64(answer, 0) == u.low) & (bytes_numbers::le64(answer, 8) == u.high)
         }
-        Read::Nothing => answer.len() == 0,
+        None => answer.len() == 0,
     }
 }
 

@@ -1,6 +1,6 @@
 // UUIDs by name: those that the simulated head has.
 use tool_head::uuids;
-use uuid_value::{Read, Uuid};
+use uuid_value::Uuid;
 
 // A number that was assigned, behind its name.
 fn assigned(name: &[u8], u: Uuid) {
@@ -11,19 +11,19 @@ fn assigned(name: &[u8], u: Uuid) {
 
 // An assigned number, or else the UUID alone.
 fn short(u: Uuid) {
-    if u.equals(uuids::BATTERY) {
+    if u == uuids::BATTERY {
         assigned(b"battery service", u);
         return;
     }
-    if u.equals(uuids::LEVEL) {
+    if u == uuids::LEVEL {
         assigned(b"battery level", u);
         return;
     }
-    if u.equals(uuids::STRING) {
+    if u == uuids::STRING {
         assigned(b"string", u);
         return;
     }
-    if u.equals(uuids::CONFIGURATION) {
+    if u == uuids::CONFIGURATION {
         assigned(b"configuration", u);
         return;
     }
@@ -31,11 +31,11 @@ fn short(u: Uuid) {
 }
 
 pub fn name(u: Uuid) {
-    if u.equals(uuids::BAY) {
+    if u == uuids::BAY {
         tool_say::text(b"bay service");
         return;
     }
-    if u.equals(uuids::OCCUPANCY) {
+    if u == uuids::OCCUPANCY {
         tool_say::text(b"occupancy");
         return;
     }
@@ -45,8 +45,8 @@ pub fn name(u: Uuid) {
 // The UUID that a PDU carries in these bytes.
 pub fn carried(bytes: &[u8]) {
     match Uuid::from_att(bytes) {
-        Read::Is(u) => name(u),
-        Read::Nothing => tool_say::text(b"no UUID"),
+        Some(u) => name(u),
+        None => tool_say::text(b"no UUID"),
     }
 }
 

@@ -15,7 +15,7 @@ use Rattle.bytes_base.specs.Choice.{pick, within}
 use Rattle.uuid_value.specs.Value.{short_of}
 use Rattle.uuid_value.specs.ValueLaws.{halves}
 use Rattle.uuid_value.specs.declared.Uuid.{Uuid}
-use Rattle.uuid_value.specs.declared.Read.TheVariants.{Is, Nothing}
+use Rattle.std.specs.Prelude.{Some, None}
 use Rattle.uuid_text.specs.Text.{digit_of, all_digits, value_of, unsigned, is_number, number_of, pairs, all_numbers, bytes_of, short_uuid, long_uuid, plain, parse_uuid}
 use Rattle.uuid_text.specs.Parts.{number_or, Stripped}
 
@@ -202,18 +202,18 @@ module _ (hex : List ℕ) (v : ℕ) (h : 4 ≤ length hex) (e : v ≡ number_or 
   four : length (take 4 hex) ≤ 4
   four = omega (arith, length-take-le 4 hex h)
 
-  pub short_none : v ≡ 0x1_0000 → Nothing ≡ short_uuid (take 4 hex)
+  pub short_none : v ≡ 0x1_0000 → None ≡ short_uuid (take 4 hex)
   unfolding short_uuid
   short_none p = rw (none (take 4 hex) 4 v four e (omega arith) p)
 
   pub short-fits : (v ≡ 0x1_0000 → ⊥) → v < 2 ^ 16
   short-fits p = (told (take 4 hex) 4 v four e p).small
 
-  pub short-some : (u : Uuid) → (v ≡ 0x1_0000 → ⊥) → u ≡ short_of v → Is u ≡ short_uuid (take 4 hex)
+  pub short-some : (u : Uuid) → (v ≡ 0x1_0000 → ⊥) → u ≡ short_of v → Some u ≡ short_uuid (take 4 hex)
   unfolding short_uuid
   short-some u p r =
       let t = told (take 4 hex) 4 v four e p in
-      rw t.good (ap Is (r ∙ ap short_of t.value))
+      rw t.good (ap Some (r ∙ ap short_of t.value))
 
 -- ---- long: a pair more
 
@@ -271,13 +271,13 @@ module _ (hex : List ℕ) (low high i v : ℕ) (h : length hex ≡ 32) (w : Half
   pub high-room : i < 32 → high < 2 ^ 56
   high-room l = high_small low high i w.small (omega (arith, w.even))
 
-  pub long-end : 32 ≤ i → Is (record { low = low; high = high }) ≡ long_uuid hex
+  pub long-end : 32 ≤ i → Some (record { low = low; high = high }) ≡ long_uuid hex
   unfolding long_uuid all_numbers bytes_of pairs
   long-end l =
       let d : drop i hex ≡ [] = drop_of_length-le hex {i = i} (omega arith) in
       let g : all_numbers (pairs hex) ≡ true = sym w.good ∙ ap (λ (x : List ℕ). all_numbers (pairs x)) d in
       let n : bytes_of 0 (pairs hex) ≡ low + 2 ^ 64 * high = sym w.value ∙ ap (λ (x : List ℕ). bytes_of (low + 2 ^ 64 * high) (pairs x)) d in
-      rw g (ap Is (halves (bytes_of 0 (pairs hex)) low high w.half n))
+      rw g (ap Some (halves (bytes_of 0 (pairs hex)) low high w.half n))
 
   module _ (l : i < 32) (e : v ≡ number_or (slice i (i + 2) hex)) where
     fits : i + 2 ≤ length hex
@@ -286,7 +286,7 @@ module _ (hex : List ℕ) (low high i v : ℕ) (h : length hex ≡ 32) (w : Half
     two : length (slice i (i + 2) hex) ≤ 2
     two = omega (arith, length-slice i (i + 2) hex fits)
 
-    pub pair-none : v ≡ 0x1_0000 → Nothing ≡ long_uuid hex
+    pub pair-none : v ≡ 0x1_0000 → None ≡ long_uuid hex
     unfolding long_uuid
     pair-none p = rw (sym w.good ∙ pair-bad hex i fits (none (slice i (i + 2) hex) 2 v two e (omega arith) p))
 
@@ -351,7 +351,7 @@ module _ (s hex : List ℕ) (n : ℕ) (h : length hex ≡ 32) (t : Stripped s n 
       let w : plain s ≡ hex = rw e at (t.whole (omega arith)) ∙ take_all 32 hex (omega arith) in
       rw (counted (omega arith), e, l) (ap long_uuid w)
 
-  pub parse-other : n ≡ 32 → (length s ≡ 36 → ⊥) → parse_uuid s ≡ Nothing
+  pub parse-other : n ≡ 32 → (length s ≡ 36 → ⊥) → parse_uuid s ≡ None
   unfolding parse_uuid
   parse-other e l = rw (counted (omega arith), e, ne_eqb (length s) 36 l)
 
@@ -362,6 +362,6 @@ module _ (s hex : List ℕ) (n : ℕ) (h : length hex ≡ 32) (t : Stripped s n 
       go true x = p (sym (counted (leb-true n 32 x)) ∙ e)
       go false x = omega (arith, t.more (leb-false n 32 x))
 
-  pub parse-none : (n ≡ 4 → ⊥) → (n ≡ 32 → ⊥) → parse_uuid s ≡ Nothing
+  pub parse-none : (n ≡ 4 → ⊥) → (n ≡ 32 → ⊥) → parse_uuid s ≡ None
   unfolding parse_uuid
   parse-none p q = rw (ne_eqb (length (plain s)) 4 (not-count 4 (omega arith) p), ne_eqb (length (plain s)) 32 (not-count 32 (omega arith) q))

@@ -1,11 +1,10 @@
 -- A UUID as text: the rule of the Rust's `Uuid::parse`. Hyphens count for nothing; 4 bytes are left, or 32 out of 36, and these
 -- are hex digits, the most significant first (RFC 4122 section 3; Core Vol 3 Part B 2.5.1 for what 4 digits stand for).
 -- A byte at or above 0x80 is no digit, so that text in UTF-8 needs no further rule.
-use Rattle.std.specs.Prelude.{ℕ, ◌+◌, ◌-◌, ◌*◌, List, [], ◌∷◌, Bool, true, ◌&&◌, length, eqb, ltb}
+use Rattle.std.specs.Prelude.{ℕ, ◌+◌, ◌-◌, ◌*◌, List, [], ◌∷◌, Bool, true, ◌&&◌, length, eqb, ltb, Option, Some, None}
 use Rattle.bytes_base.specs.Choice.{pick, within}
 use Rattle.uuid_value.specs.Value.{short_of, of_num}
-use Rattle.uuid_value.specs.declared.Read.{Read}
-use Rattle.uuid_value.specs.declared.Read.TheVariants.{Is, Nothing}
+use Rattle.uuid_value.specs.declared.Uuid.{Uuid}
 
 -- the value of a hex digit, 0 to 9, A to F, a to f, or 16 where a byte is none
 unfoldable pub digit_of : ℕ → ℕ
@@ -48,18 +47,18 @@ bytes_of v [] = v
 bytes_of v (p ∷ ps) = bytes_of (256 * v + number_of p) ps
 
 -- 4 bytes are read as one number, 32 as 16 numbers of 2
-unfoldable pub short_uuid : List ℕ → Read
-short_uuid s = pick (is_number s) (Is (short_of (number_of s))) Nothing
+unfoldable pub short_uuid : List ℕ → Option Uuid
+short_uuid s = pick (is_number s) (Some (short_of (number_of s))) None
 
-unfoldable pub long_uuid : List ℕ → Read
-long_uuid s = pick (all_numbers (pairs s)) (Is (of_num (bytes_of 0 (pairs s)))) Nothing
+unfoldable pub long_uuid : List ℕ → Option Uuid
+long_uuid s = pick (all_numbers (pairs s)) (Some (of_num (bytes_of 0 (pairs s)))) None
 
 -- without hyphens
 unfoldable pub plain : List ℕ → List ℕ
 plain [] = []
 plain (b ∷ s) = pick (eqb b 0x2D) (plain s) (b ∷ plain s)
 
-unfoldable pub parse_uuid : List ℕ → Read
+unfoldable pub parse_uuid : List ℕ → Option Uuid
 parse_uuid s =
     pick (eqb (length (plain s)) 4) (short_uuid (plain s))
-    (pick (eqb (length (plain s)) 32 && eqb (length s) 36) (long_uuid (plain s)) Nothing)
+    (pick (eqb (length (plain s)) 32 && eqb (length s) 36) (long_uuid (plain s)) None)

@@ -6,7 +6,7 @@ ghost use Rattle.std.proofs.Math.Seq.{slice};
 ghost use Rattle.uuid_text.specs.Text.{digit_of, short_uuid, long_uuid, parse_uuid};
 ghost use Rattle.uuid_text.specs.Parts.{number_or, Stripped};
 
-use uuid_value::{Read, Uuid};
+use uuid_value::Uuid;
 
 const HYPHEN: u8 = b'-';
 
@@ -40,7 +40,7 @@ struct Digits {
 }
 
 // The UUID that text is: hyphens are dropped, and 4 digits are left, or 32 of 36 bytes.
-pub fn parse(text: &[u8]) -> Read
+pub fn parse(text: &[u8]) -> Option<Uuid>
     ensures { result ≡ parse_uuid text.now }
 {
     let digits = plain(text);
@@ -54,7 +54,7 @@ pub fn parse(text: &[u8]) -> Read
             return long(&hex[..]);
         }
     }
-    Read::Nothing
+    None
 }
 
 fn plain(text: &[u8]) -> Digits
@@ -78,19 +78,19 @@ fn plain(text: &[u8]) -> Digits
 }
 
 // The UUID of the first 4 digits.
-fn short(hex: &[u8]) -> Read
+fn short(hex: &[u8]) -> Option<Uuid>
     requires { 4 ≤ length hex.now }
     ensures { result ≡ short_uuid (take 4 hex.now) }
 {
     let v = number(hex, 0, SHORT_DIGITS);
     if v == NO_NUMBER {
-        return Read::Nothing;
+        return None;
     }
-    Read::Is(Uuid::from_u16(v as u16))
+    Some(Uuid::from_u16(v as u16))
 }
 
 // The UUID of 32 digits.
-fn long(hex: &[u8]) -> Read
+fn long(hex: &[u8]) -> Option<Uuid>
     requires { length hex.now ≡ 32 }
     ensures { result ≡ long_uuid hex.now }
 {
@@ -100,13 +100,13 @@ fn long(hex: &[u8]) -> Read
     while i < LONG_DIGITS {
         let v = number(hex, i, BYTE_DIGITS);
         if v == NO_NUMBER {
-            return Read::Nothing;
+            return None;
         }
         high = 256 * high + low / TOP_BYTE;
         low = 256 * (low % TOP_BYTE) + v;
         i += BYTE_DIGITS;
     }
-    Read::Is(Uuid { low, high })
+    Some(Uuid { low, high })
 }
 
 // The number that the n bytes from at on are, of which the first may be a plus, or NO_NUMBER.

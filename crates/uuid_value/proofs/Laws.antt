@@ -1,20 +1,18 @@
 -- What each return of the code asks, over plain variables.
 use Prim.Native.Nat.{ℕ, suc, ◌+◌, ◌-◌, ◌/◌, ◌%◌, ◌^◌, ◌≤◌, ◌<◌}
-use mathlib.Core.Path.{◌≡◌, refl, ap, sym, ◌∙◌}
-use mathlib.Core.Bool.{Bool, true, false}
+use mathlib.Core.Path.{◌≡◌, ap, sym, ◌∙◌}
 use mathlib.Core.List.{List, ◌∷◌, ◌++◌}
 use native.Mathlib.Omega.{arith}
 use native.Mathlib.Numerals.{add-one}
 use lib.ListN.{length, drop, get_or, set, replicate}
 use lib.Seq.{drop-cons, take_all, paste, paste-suc}
-use lib.Dec.{eqb}
-use borrow.Author.Tests.{eq-eqb, ne_eqb, eqb-true, eqb-false}
+use borrow.Author.Tests.{ne_eqb}
 use Rattle.bytes_base.specs.Bytes.{le, le_bytes, le_at}
 use Rattle.bytes_base.proofs.ByteLaws.{le_at-in, le_at-off, le_at-split, le_bytes-split, length-le_bytes}
 use Rattle.uuid_value.specs.Value.{num, of_num, short, short_of, Short, att_uuid, att_bytes, att_of}
 use Rattle.uuid_value.specs.ValueLaws.{halves, att-short, att-long}
 use Rattle.uuid_value.specs.declared.Uuid.{Uuid}
-use Rattle.uuid_value.specs.declared.Read.TheVariants.{Is, Nothing}
+use Rattle.std.specs.Prelude.{Some, None}
 
 -- ---- from_128
 
@@ -25,33 +23,21 @@ whole s at l h p q e₁ e₂ = halves (le_at 16 s at) l h q (rw (e₁, e₂) (le
 pub none : (s : List ℕ) (at : ℕ) → length s < at + 16 → record { low = 0; high = 0 } ≡ of_num (le_at 16 s at)
 none s at p = rw (le_at-off 16 s at p)
 
--- ---- equals
-
-eqb-by : (a b c d : ℕ) (t : Bool) → eqb a b ≡ t → (a ≡ b → c ≡ d) → (c ≡ d → a ≡ b) → t ≡ eqb c d
-eqb-by a b c d true e f g = sym (eq-eqb c d (f (eqb-true a b e)))
-eqb-by a b c d false e f g = sym (ne_eqb c d (λ p. eqb-false a b e (g p)))
-
-pub same_low : (u v : Uuid) → u.low ≡ v.low → eqb u.high v.high ≡ eqb (num u) (num v)
-same_low u v e = eqb-by u.high v.high (num u) (num v) (eqb u.high v.high) refl (λ p. omega arith) (λ p. omega arith)
-
-pub other-low : (u v : Uuid) → u.low < 2 ^ 64 → v.low < 2 ^ 64 → (u.low ≡ v.low → ⊥) → false ≡ eqb (num u) (num v)
-other-low u v p q n = sym (ne_eqb (num u) (num v) (λ (e : num u ≡ num v). n (omega arith)))
-
 -- ---- from_att
 
 le-all : (s : List ℕ) (w : ℕ) → length s ≡ w → le_at w s 0 ≡ le s
 le-all s w e = le_at-in w s 0 (omega arith) ∙ ap le (take_all w s (omega arith))
 
 module _ (s : List ℕ) where
-  pub read-two : (u : Uuid) (v : ℕ) → length s ≡ 2 → v ≡ le_at 2 s 0 → u ≡ short_of v → Is u ≡ att_uuid s
+  pub read-two : (u : Uuid) (v : ℕ) → length s ≡ 2 → v ≡ le_at 2 s 0 → u ≡ short_of v → Some u ≡ att_uuid s
   unfolding att_uuid
-  read-two u v h e r = rw h (ap Is (r ∙ ap short_of (e ∙ le-all s 2 h)))
+  read-two u v h e r = rw h (ap Some (r ∙ ap short_of (e ∙ le-all s 2 h)))
 
-  pub read-sixteen : (u : Uuid) → length s ≡ 16 → u ≡ of_num (le_at 16 s 0) → Is u ≡ att_uuid s
+  pub read-sixteen : (u : Uuid) → length s ≡ 16 → u ≡ of_num (le_at 16 s 0) → Some u ≡ att_uuid s
   unfolding att_uuid
-  read-sixteen u h r = rw h (ap Is (r ∙ ap of_num (le-all s 16 h)))
+  read-sixteen u h r = rw h (ap Some (r ∙ ap of_num (le-all s 16 h)))
 
-  pub read_none : (length s ≡ 2 → ⊥) → (length s ≡ 16 → ⊥) → Nothing ≡ att_uuid s
+  pub read_none : (length s ≡ 2 → ⊥) → (length s ≡ 16 → ⊥) → None ≡ att_uuid s
   unfolding att_uuid
   read_none p q = rw (ne_eqb (length s) 2 p, ne_eqb (length s) 16 q)
 

@@ -1,10 +1,8 @@
 -- A UUID, and the bytes that ATT carries for it: Core Vol 3 Part B 2.5.1 (UUID) and Part F 3.2.1 (attribute type).
-use Rattle.std.specs.Prelude.{ℕ, ◌+◌, ◌-◌, ◌*◌, ◌/◌, ◌%◌, ◌^◌, ◌<◌, ◌≡◌, List, ◌++◌, Bool, ◌&&◌, length, replicate, eqb, ltb}
+use Rattle.std.specs.Prelude.{ℕ, ◌+◌, ◌-◌, ◌*◌, ◌/◌, ◌%◌, ◌^◌, ◌<◌, ◌≡◌, List, ◌++◌, Bool, ◌&&◌, length, replicate, eqb, ltb, Option, Some, None}
 use Rattle.bytes_base.specs.Choice.{pick}
 use Rattle.bytes_base.specs.Bytes.{le, le_bytes}
 use Rattle.uuid_value.specs.declared.Uuid.{Uuid}
-use Rattle.uuid_value.specs.declared.Read.{Read}
-use Rattle.uuid_value.specs.declared.Read.TheVariants.{Is, Nothing}
 use Rattle.uuid_value.specs.declared.Att.{Att}
 
 -- the Bluetooth Base UUID, 00000000-0000-1000-8000-00805F9B34FB
@@ -37,8 +35,8 @@ pub record Short (n : ℕ) : Type 0 where
   pub same : n ≡ short value
 
 -- the UUID that bytes of ATT are: 2 of them a 16-bit one, 16 of them a 128-bit one
-unfoldable pub att_uuid : List ℕ → Read
-att_uuid s = pick (eqb (length s) 2) (Is (short_of (le s))) (pick (eqb (length s) 16) (Is (of_num (le s))) Nothing)
+unfoldable pub att_uuid : List ℕ → Option Uuid
+att_uuid s = pick (eqb (length s) 2) (Some (short_of (le s))) (pick (eqb (length s) 16) (Some (of_num (le s))) None)
 
 -- the bytes of ATT for a UUID: 2 where a 16-bit one stands for it, else 16
 unfoldable pub att_bytes : ℕ → List ℕ

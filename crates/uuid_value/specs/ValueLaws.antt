@@ -1,13 +1,14 @@
 -- What follows from the definitions, for the theorems and the proofs of the code.
 use Rattle.std.specs.Prelude.{ℕ, suc, ◌+◌, ◌*◌, ◌/◌, ◌%◌, ◌^◌, ◌<◌, ◌≡◌, refl, Bool, true, false, ◌⊎◌, eqb, ltb}
-use Rattle.std.proofs.Common.{ap, sym, ◌∙◌, inl, inr, mul-suc, mul-le-mul_left, arith, eqb-true, lt-ltb, ltb-true}
-use Rattle.std.proofs.lemmas.Bool.{false≢true}
+use Rattle.std.proofs.Common.{ap, sym, ◌∙◌, inl, inr, mul-suc, mul-le-mul_left, arith, eqb-true, eq-eqb, ne_eqb, lt-ltb, ltb-true, ◌&&◌}
+use Rattle.std.proofs.lemmas.Bool.{false≢true, eqb-false}
 use Rattle.std.proofs.Math.Bool.{and-eq-true_iff}
 use Rattle.std.proofs.Math.Nat.{mod-add-div}
 use Rattle.std.proofs.Math.Pow.{low, high, split}
 use Rattle.bytes_base.specs.Bytes.{le_bytes}
 use Rattle.uuid_value.specs.Value.{base_uuid, num, of_num, short, is_short, Short, att_bytes}
 use Rattle.uuid_value.specs.declared.Uuid.{Uuid}
+use Rattle.uuid_value.specs.contracts.UuidPartialEq.TheImpl.{eq-value}
 
 -- ---- halves and numbers
 
@@ -29,6 +30,26 @@ below-square p l h a b = omega (arith, mul-le-mul_left {m = suc h} {n = p} p b, 
 -- two halves fill 16 bytes and no more
 pub num-fits : (u : Uuid) → u.low < 2 ^ 64 → u.high < 2 ^ 64 → num u < 256 ^ 16
 num-fits u p q = below-square (2 ^ 64) u.low u.high p q
+
+-- ---- equality
+
+eqb-by : (a b c d : ℕ) (t : Bool) → eqb a b ≡ t → (a ≡ b → c ≡ d) → (c ≡ d → a ≡ b) → t ≡ eqb c d
+eqb-by a b c d true e f g = sym (eq-eqb c d (f (eqb-true a b e)))
+eqb-by a b c d false e f g = sym (ne_eqb c d (λ p. eqb-false a b e (g p)))
+
+same_low : (u v : Uuid) → u.low ≡ v.low → eqb u.high v.high ≡ eqb (num u) (num v)
+same_low u v e = eqb-by u.high v.high (num u) (num v) (eqb u.high v.high) refl (λ p. omega arith) (λ p. omega arith)
+
+other-low : (u v : Uuid) → u.low < 2 ^ 64 → v.low < 2 ^ 64 → (u.low ≡ v.low → ⊥) → false ≡ eqb (num u) (num v)
+other-low u v p q n = sym (ne_eqb (num u) (num v) (λ (e : num u ≡ num v). n (omega arith)))
+
+-- The `==` that Uuid derives says whether the numbers are one, of UUIDs whose low halves have 64 bits, as each Uuid of the code has.
+pub equal-numbers : (u v : Uuid) → u.low < 2 ^ 64 → v.low < 2 ^ 64 → eq-value.it u v ≡ eqb (num u) (num v)
+equal-numbers u v p q = go (eqb u.low v.low) refl
+  where
+    go : (t : Bool) → eqb u.low v.low ≡ t → (t && eqb u.high v.high) ≡ eqb (num u) (num v)
+    go true e = same_low u v (eqb-true u.low v.low e)
+    go false e = other-low u v p q (eqb-false u.low v.low e)
 
 -- ---- which UUIDs are 16-bit ones
 

@@ -1,23 +1,16 @@
 // UUIDs (Core Vol 3 Part B 2.5.1), and the bytes that ATT carries for them (Part F 3.2.1).
 #![tactic(auto)]
 
-ghost use Rattle.std.specs.Prelude.{◌≡◌, ◌+◌, ◌≤◌, eqb};
+ghost use Rattle.std.specs.Prelude.{◌≡◌, ◌+◌, ◌≤◌};
 ghost use Rattle.std.proofs.Math.Seq.{paste};
 ghost use Rattle.bytes_base.specs.Bytes.{le_at, le_bytes};
 ghost use Rattle.uuid_value.specs.Value.{num, of_num, short_of, att_uuid, att_of};
 
 // A UUID of 128 bits as two numbers: its value is low + 2^64 * high.
-#[derive(Clone, Copy)]
+#[derive(Clone, Copy, PartialEq, Eq)]
 pub struct Uuid {
     pub low: u64,
     pub high: u64,
-}
-
-// What may be no UUID.
-#[derive(Clone, Copy)]
-pub enum Read {
-    Is(Uuid),
-    Nothing,
 }
 
 // The bytes of a UUID as ATT carries them: the first len of bytes. The rest is zero.
@@ -78,26 +71,16 @@ impl Uuid {
         Self { low: 0, high: 0 }
     }
 
-    pub fn equals(self, other: Uuid) -> bool
-        ensures { result ≡ eqb (num self) (num other) }
-    {
-        if self.low == other.low {
-            self.high == other.high
-        } else {
-            false
-        }
-    }
-
-    pub fn from_att(bytes: &[u8]) -> Read
+    pub fn from_att(bytes: &[u8]) -> Option<Uuid>
         ensures { result ≡ att_uuid bytes.now }
     {
         if bytes.len() == SHORT_LEN {
-            return Read::Is(Uuid::from_u16(bytes_numbers::le16(bytes, 0)));
+            return Some(Uuid::from_u16(bytes_numbers::le16(bytes, 0)));
         }
         if bytes.len() == LONG_LEN {
-            return Read::Is(Uuid::from_128(bytes, 0));
+            return Some(Uuid::from_128(bytes, 0));
         }
-        Read::Nothing
+        None
     }
 
     // 2 bytes for a Base UUID, else 16.

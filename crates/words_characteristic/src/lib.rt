@@ -165,7 +165,7 @@ pub fn find_characteristic(tables: &[u64; 1152], count: usize, uuid: Uuid) -> Op
         let low = tables[a];
         let high = tables[b];
         let u = Uuid { low, high };
-        if u.equals(uuid) {
+        if u == uuid {
             let x = characteristic_at(tables, i);
             return Some(x);
         }

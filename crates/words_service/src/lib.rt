@@ -79,7 +79,7 @@ pub fn find_service(tables: &[u64; 1152], count: usize, uuid: Uuid) -> Option<Se
         let low = tables[words::SERVICE_LOW + i];
         let high = tables[words::SERVICE_HIGH + i];
         let u = Uuid { low, high };
-        if u.equals(uuid) {
+        if u == uuid {
             return Some(service_at(tables, i));
         }
         i += 1;

@@ -2,7 +2,6 @@ use mathlib.Core.Path.{refl, sym, ◌∙◌}
 use mathlib.Core.List.{[]}
 use borrow.Author.Rules.{rules}
 use Rattle.script_rules.proofs.AdvanceLaws.{again, done}
-use borrow.Author.Rules.{rules}
 use Rattle.script_run.proofs.advance.Goals as goal
 
 pub loop-at-init : goal.loop-at-init

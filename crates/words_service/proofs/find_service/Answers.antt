@@ -1,21 +1,22 @@
 use Prim.Native.Nat.{◌-◌}
-use mathlib.Core.Path.{refl}
+use mathlib.Core.Path.{refl, ◌∙◌}
 use native.Mathlib.Omega.{arith}
+use Rattle.uuid_value.specs.ValueLaws.{equal-numbers}
 use Rattle.words_service.proofs.ServiceLaws.{find-hit, find-pass, find-end}
 use Rattle.words_service.proofs.find_service.Goals as goal
 
 pub loop-i-init : goal.loop-i-init
 loop-i-init c = (omega arith, c.requires, refl)
 
-pub returns-then-equals : goal.returns-then-equals
-returns-then-equals c =
+pub returns-then-eq : goal.returns-then-eq
+returns-then-eq c =
     let l = c.loop-i in
-    find-hit _ _ _ _ l.invariant.1 l.invariant.2 (omega arith) _ c.equals.ensures c.if-equals.true _ c.service_at.ensures
+    find-hit _ _ _ _ l.invariant.1 l.invariant.2 (omega arith) _ (c.eq.ensures ∙ equal-numbers _ _ (omega arith) (omega arith)) c.if-eq.true _ c.service_at.ensures
 
 pub loop-i-preserved : goal.loop-i-preserved
 loop-i-preserved c =
     let l = c.loop-i in
-    (omega arith, l.invariant.1, find-pass _ _ _ _ l.invariant.1 l.invariant.2 (omega arith) _ c.equals.ensures c.if-equals.false)
+    (omega arith, l.invariant.1, find-pass _ _ _ _ l.invariant.1 l.invariant.2 (omega arith) _ (c.eq.ensures ∙ equal-numbers _ _ (omega arith) (omega arith)) c.if-eq.false)
 
 pub returns : goal.returns
 returns c =
