@@ -16,10 +16,8 @@ use Rattle.radio_rules.specs.Hearing as hearing
 use Rattle.state_core.specs.declared.Core.{Core}
 use Rattle.state_core.specs.Reading.{central}
 use Rattle.central_answers.specs.declared.Answer.{Answer}
-use Rattle.central_answers.specs.declared.QuietAnswer.{QuietAnswer}
 use Rattle.central_answers.specs.Answers as answers
 use Rattle.link_call.specs.Leaves.{emptied, FragmentLeaves}
-use Rattle.radio_calls.specs.declared.Advertised.{Advertised}
 use Rattle.radio_calls.specs.Outcomes as radio
 use Rattle.c_core.specs.Layout.{core_in}
 use Rattle.c_told.specs.Told.{refusal_in, sent_in, action_in, answer_words, refusal_words, advertised_words}
@@ -39,7 +37,7 @@ said why c k left core' h l m n = by-refusal why m (λ z. ap core_in (n z) ∙ h
 -- ---- a call that may send
 
 module _ (f : Central → Outcome) (core tables store out : List ℕ) (d : Core) (e : d ≡ core_in core)
-    (a : Answer) (tables' store' out' : List ℕ) (g : answers.outcome a tables' store' out' ≡ f (central d tables))
+    (a : Answer Core Sent) (tables' store' out' : List ℕ) (g : answers.outcome a tables' store' out' ≡ f (central d tables))
     (left : List ℕ) (k : Core) (h : core_in left ≡ k)
     (l : answers.Leaves a.refusal k a.core tables tables' store store' × ((a.refusal ≡ 0 → ⊥) → out' ≡ out))
     (core' told : List ℕ) (t : told ≡ answer_words a.refusal a.sent)
@@ -67,7 +65,7 @@ module _ (f : Central → Outcome) (core tables store out : List ℕ) (d : Core)
   answered = (why, does, keeps, tells)
 
 module _ (f : Central → Outcome) (core tables store out : List ℕ) (d : Core) (e : d ≡ core_in core)
-    (a : Answer) (tables' store' out' : List ℕ) (g : answers.outcome a tables' store' out' ≡ f (central d tables)) where
+    (a : Answer Core Sent) (tables' store' out' : List ℕ) (g : answers.outcome a tables' store' out' ≡ f (central d tables)) where
   pub exported :
       (l : answers.Leaves a.refusal d a.core tables tables' store store' × ((a.refusal ≡ 0 → ⊥) → out' ≡ out))
       (core' told : List ℕ) (m : (told ≡ answer_words a.refusal a.sent) × Given a.refusal a.core core core')
@@ -91,7 +89,7 @@ module _ (f : Central → Outcome) (core tables store out : List ℕ) (d : Core)
 
 -- of a batch that is told in words
 pub exported-batch : (f : Batch → Central → Outcome) (core tables store out : List ℕ) (d : Core) (e : d ≡ core_in core) (b batch : Batch) (i : b ≡ batch)
-    (a : Answer) (tables' store' out' : List ℕ) (g : answers.outcome a tables' store' out' ≡ f b (central d tables))
+    (a : Answer Core Sent) (tables' store' out' : List ℕ) (g : answers.outcome a tables' store' out' ≡ f b (central d tables))
     (l : answers.Leaves a.refusal d a.core tables tables' store store' × ((a.refusal ≡ 0 → ⊥) → out' ≡ out))
     (core' told : List ℕ) (m : (told ≡ answer_words a.refusal a.sent) × Given a.refusal a.core core core')
     → (outcome told core' tables' store' out' ≡ f batch (central (core_in core) tables))
@@ -111,7 +109,7 @@ refused-whole why told t =
     let x : refusal_words (refusal_in told) ≡ refusal_words why = ap refusal_words (ap refusal_in t ∙ quiet-refusal why) in t ∙ sym x
 
 module _ (f : Central → Quiet) (core tables store : List ℕ) (d : Core) (e : d ≡ core_in core)
-    (a : QuietAnswer) (tables' store' : List ℕ) (g : answers.quiet a tables' store' ≡ f (central d tables))
+    (a : Answer Core ⊤) (tables' store' : List ℕ) (g : answers.quiet a tables' store' ≡ f (central d tables))
     (l : answers.Leaves a.refusal d a.core tables tables' store store')
     (core' told : List ℕ) (m : (told ≡ refusal_words a.refusal) × Given a.refusal a.core core core') where
   pub exported-quietly : (quiet told core' tables' store' ≡ f (central (core_in core) tables)) × (KeptQuietly told core tables store core' tables' store' × Refused told)
@@ -138,7 +136,7 @@ module _ (f : Address → Central → hearing.Outcome) (core tables store : List
       rw (said why c d core core' (sym e) (λ z. (l z).0) m.0 m.1, r, s) in
       o ∙ g ∙ ap (λ (x : Address). f x (central d tables)) i ∙ ap (λ (x : Core). f address (central x tables)) e
 
-  pub exported-action : (a : Advertised) (tables' store' : List ℕ) → radio.outcome a tables' store' ≡ f who (central d tables)
+  pub exported-action : (a : Answer Core AdvAction) (tables' store' : List ℕ) → radio.outcome a tables' store' ≡ f who (central d tables)
       → answers.Leaves a.refusal d a.core tables tables' store store'
       → (core' told : List ℕ) → (told ≡ advertised_words a.refusal a.action) × Given a.refusal a.core core core'
       → (heard told core' tables' store' ≡ f address (central (core_in core) tables)) × (KeptQuietly told core tables store core' tables' store' × Acted told)
@@ -150,7 +148,7 @@ module _ (f : Address → Central → hearing.Outcome) (core tables store : List
         (keeps-quietly a.refusal d a.core core tables store core' tables' store' told why l m.1, m.0 ∙ sym x),
       )
 
-  pub exported-response : (a : QuietAnswer) (tables' store' : List ℕ) → radio.taken a tables' store' ≡ f who (central d tables)
+  pub exported-response : (a : Answer Core ⊤) (tables' store' : List ℕ) → radio.taken a tables' store' ≡ f who (central d tables)
       → answers.Leaves a.refusal d a.core tables tables' store store'
       → (core' told : List ℕ) → (told ≡ refusal_words a.refusal) × Given a.refusal a.core core core'
       → (heard told core' tables' store' ≡ f address (central (core_in core) tables)) × (KeptQuietly told core tables store core' tables' store' × Refused told)

@@ -22,8 +22,9 @@ ghost use Rattle.c_told.specs.Told.{answer_words, refusal_words, advertised_word
 ghost use Rattle.c_told.specs.Read.{timer_words, handle_words, given_words, passed_words, seen_words, spot_words, sighting_words};
 ghost use Rattle.c_central.specs.After.{outcome, quiet, heard, Answered, Refused, Acted, Given, GivenFragment, Kept, KeptFragment, KeptQuietly};
 
-use central_answers::{Answer, QuietAnswer};
-use radio_calls::Advertised;
+use central_answers::Answer;
+use radio_match::AdvAction;
+use state::Sent;
 use state_core::Core;
 use state_refusals::Refusal;
 use time::Micros;
@@ -40,48 +41,37 @@ fn give_core(core: &mut [u64; 37], refusal: Option<Refusal>, next: Core)
     }
 }
 
-fn give(core: &mut [u64; 37], told: &mut [u64; 8], a: Answer)
-    ensures { (told.new ≡ answer_words (told_number a.refusal) a.sent) × Given (told_number a.refusal) a.core core.old core.new }
+fn give(core: &mut [u64; 37], told: &mut [u64; 8], a: Answer<Core, Sent>)
+    ensures { (told.new ≡ answer_words (told_number a.refusal) a.gives) × Given (told_number a.refusal) a.state core.old core.new }
 {
-    let refusal = a.refusal;
-    let sent = a.sent;
-    let next = a.core;
-    *told = c_told::answer_words(state_refusals::told_number(refusal), sent);
-    give_core(core, refusal, next);
+    *told = c_told::answer_words(state_refusals::told_number(a.refusal), a.gives);
+    give_core(core, a.refusal, a.state);
 }
 
 // A fragment that makes its frame too long is refused, and what is held of the frame is emptied.
-fn give_fragment(core: &mut [u64; 37], told: &mut [u64; 8], a: Answer)
-    ensures { (told.new ≡ answer_words (told_number a.refusal) a.sent) × GivenFragment (told_number a.refusal) a.core core.old core.new }
+fn give_fragment(core: &mut [u64; 37], told: &mut [u64; 8], a: Answer<Core, Sent>)
+    ensures { (told.new ≡ answer_words (told_number a.refusal) a.gives) × GivenFragment (told_number a.refusal) a.state core.old core.new }
 {
-    let refusal = a.refusal;
-    let sent = a.sent;
-    let next = a.core;
-    *told = c_told::answer_words(state_refusals::told_number(refusal), sent);
-    if refusal == Some(Refusal::LongFrame) {
+    *told = c_told::answer_words(state_refusals::told_number(a.refusal), a.gives);
+    if a.refusal == Some(Refusal::LongFrame) {
         core[c_core::HELD] = 0;
         return;
     }
-    give_core(core, refusal, next);
+    give_core(core, a.refusal, a.state);
 }
 
-fn give_quietly(core: &mut [u64; 37], told: &mut [u64; 8], a: QuietAnswer)
-    ensures { (told.new ≡ refusal_words (told_number a.refusal)) × Given (told_number a.refusal) a.core core.old core.new }
+fn give_quietly(core: &mut [u64; 37], told: &mut [u64; 8], a: Answer<Core, ()>)
+    ensures { (told.new ≡ refusal_words (told_number a.refusal)) × Given (told_number a.refusal) a.state core.old core.new }
 {
-    let refusal = a.refusal;
-    let next = a.core;
-    *told = c_told::refusal_words(state_refusals::told_number(refusal));
-    give_core(core, refusal, next);
+    *told = c_told::refusal_words(state_refusals::told_number(a.refusal));
+    give_core(core, a.refusal, a.state);
 }
 
-fn give_action(core: &mut [u64; 37], told: &mut [u64; 8], a: Advertised)
-    ensures { (told.new ≡ advertised_words (told_number a.refusal) a.action) × Given (told_number a.refusal) a.core core.old core.new }
+fn give_action(core: &mut [u64; 37], told: &mut [u64; 8], a: Answer<Core, AdvAction>)
+    ensures { (told.new ≡ advertised_words (told_number a.refusal) a.gives) × Given (told_number a.refusal) a.state core.old core.new }
 {
-    let refusal = a.refusal;
-    let action = a.action;
-    let next = a.core;
-    *told = c_told::advertised_words(state_refusals::told_number(refusal), action);
-    give_core(core, refusal, next);
+    *told = c_told::advertised_words(state_refusals::told_number(a.refusal), a.gives);
+    give_core(core, a.refusal, a.state);
 }
 
 // ---- a fresh state

@@ -9,12 +9,12 @@ ghost use Rattle.state_readers.specs.Readers.{timer, handle, result_answer};
 ghost use Rattle.radio_rules.specs.Hearing.{adv, advertised, scan_responded};
 ghost use Rattle.central.specs.State.{reading, outcome, quiet, acted, heard};
 
+use central_answers::Answer;
 use radio_match::AdvAction;
 use script_rules::Batch;
 use state::{Address, Sent};
 use state_core::Core;
 use state_readers::{Given, Handle, Timer};
-use state_refusals::Refusal;
 use time::Micros;
 
 pub mod fresh;
@@ -25,29 +25,6 @@ pub struct State {
     pub tables: [u64; 1152],
 }
 
-// The answer of a call that may send.
-#[derive(Clone, Copy)]
-pub struct Answer {
-    pub state: State,
-    pub refusal: Option<Refusal>,
-    pub sent: Sent,
-}
-
-// The answer of a call that sends nothing.
-#[derive(Clone, Copy)]
-pub struct QuietAnswer {
-    pub state: State,
-    pub refusal: Option<Refusal>,
-}
-
-// The answer of an advertising call.
-#[derive(Clone, Copy)]
-pub struct Advertised {
-    pub state: State,
-    pub refusal: Option<Refusal>,
-    pub action: AdvAction,
-}
-
 // A batch of steps waits behind the others, and the script goes on.
 pub fn push_steps(
     state: State,
@@ -56,36 +33,30 @@ pub fn push_steps(
     at: Micros,
     batch: Batch,
     values: &[u8],
-) -> Answer
+) -> Answer<State, Sent>
     ensures { outcome result store.new out.new ≡ push_steps (reading state) store.old out.old at batch values.now }
 {
-    let core = state.core;
     let mut tables = state.tables;
-    let a = script_batch::push_steps(core, &mut tables, store, out, at, batch, values);
-    let left = a.core;
-    let sent = a.sent;
-    let s = State { core: left, tables };
+    let a = script_batch::push_steps(
+        state.core, &mut tables, store, out, at, batch, values);
     Answer {
-        state: s,
+        state: State { core: a.state, tables },
         refusal: a.refusal,
-        sent,
+        gives: a.gives,
     }
 }
 
 // The running step ends, if its deadline is now or before.
-pub fn on_timer(state: State, store: &mut [u8], out: &mut [u8], at: Micros) -> Answer
+pub fn on_timer(state: State, store: &mut [u8], out: &mut [u8], at: Micros) -> Answer<State, Sent>
     ensures { outcome result store.new out.new ≡ on_timer (reading state) store.old out.old at }
 {
-    let core = state.core;
     let mut tables = state.tables;
-    let a = script_events::on_timer(core, &mut tables, store, out, at);
-    let left = a.core;
-    let sent = a.sent;
-    let s = State { core: left, tables };
+    let a = script_events::on_timer(
+        state.core, &mut tables, store, out, at);
     Answer {
-        state: s,
+        state: State { core: a.state, tables },
         refusal: a.refusal,
-        sent,
+        gives: a.gives,
     }
 }
 
@@ -96,34 +67,30 @@ pub fn on_connected(
     out: &mut [u8],
     handle: u16,
     at: Micros,
-) -> Answer
+) -> Answer<State, Sent>
     ensures { outcome result store.new out.new ≡ on_connected (reading state) store.old out.old handle at }
 {
-    let core = state.core;
     let mut tables = state.tables;
-    let a = script_events::on_connected(core, &mut tables, store, out, handle, at);
-    let left = a.core;
-    let sent = a.sent;
-    let s = State { core: left, tables };
+    let a = script_events::on_connected(
+        state.core, &mut tables, store, out, handle, at);
     Answer {
-        state: s,
+        state: State { core: a.state, tables },
         refusal: a.refusal,
-        sent,
+        gives: a.gives,
     }
 }
 
 // There is no link any more.
-pub fn on_disconnected(state: State, store: &mut [u8], at: Micros) -> QuietAnswer
+pub fn on_disconnected(state: State, store: &mut [u8], at: Micros) -> Answer<State, ()>
     ensures { quiet result store.new ≡ on_disconnected (reading state) store.old at }
 {
-    let core = state.core;
     let mut tables = state.tables;
-    let a = script_events::on_disconnected(core, &mut tables, store, at);
-    let left = a.core;
-    let s = State { core: left, tables };
-    QuietAnswer {
-        state: s,
+    let a = script_events::on_disconnected(
+        state.core, &mut tables, store, at);
+    Answer {
+        state: State { core: a.state, tables },
         refusal: a.refusal,
+        gives: a.gives,
     }
 }
 
@@ -135,19 +102,16 @@ pub fn on_fragment(
     at: Micros,
     start: bool,
     fragment: &[u8],
-) -> Answer
+) -> Answer<State, Sent>
     ensures { outcome result store.new out.new ≡ on_fragment (reading state) store.old out.old at start fragment.now }
 {
-    let core = state.core;
     let mut tables = state.tables;
-    let a = link_call::on_fragment(core, &mut tables, store, out, at, start, fragment);
-    let left = a.core;
-    let sent = a.sent;
-    let s = State { core: left, tables };
+    let a = link_call::on_fragment(
+        state.core, &mut tables, store, out, at, start, fragment);
     Answer {
-        state: s,
+        state: State { core: a.state, tables },
         refusal: a.refusal,
-        sent,
+        gives: a.gives,
     }
 }
 
@@ -161,14 +125,13 @@ pub fn on_advertising(
     address: Address,
     data: &[u8],
     to_central: bool,
-) -> Advertised
+) -> Answer<State, AdvAction>
     ensures { acted result store.new
         ≡ advertised (reading state) store.old (adv at channel pdu address «data».now to_central) }
 {
-    let core = state.core;
     let mut tables = state.tables;
     let a = radio_calls::on_advertising(
-        core,
+        state.core,
         &mut tables,
         store,
         at,
@@ -178,13 +141,10 @@ pub fn on_advertising(
         data,
         to_central,
     );
-    let left = a.core;
-    let action = a.action;
-    let s = State { core: left, tables };
-    Advertised {
-        state: s,
+    Answer {
+        state: State { core: a.state, tables },
         refusal: a.refusal,
-        action,
+        gives: a.gives,
     }
 }
 
@@ -195,17 +155,16 @@ pub fn on_scan_response(
     at: Micros,
     address: Address,
     data: &[u8],
-) -> QuietAnswer
+) -> Answer<State, ()>
     ensures { heard result store.new ≡ scan_responded (reading state) store.old at address «data».now }
 {
-    let core = state.core;
     let mut tables = state.tables;
-    let a = radio_calls::on_scan_response(core, &mut tables, store, at, address, data);
-    let left = a.core;
-    let s = State { core: left, tables };
-    QuietAnswer {
-        state: s,
+    let a = radio_calls::on_scan_response(
+        state.core, &mut tables, store, at, address, data);
+    Answer {
+        state: State { core: a.state, tables },
         refusal: a.refusal,
+        gives: a.gives,
     }
 }
 
@@ -213,25 +172,19 @@ pub fn on_scan_response(
 pub fn timer_us(state: State, store: &[u8]) -> Timer
     ensures { result ≡ timer (reading state) (length store.now) }
 {
-    let core = state.core;
-    let tables = state.tables;
-    state_readers::timer_us(core, &tables, store)
+    state_readers::timer_us(state.core, &state.tables, store)
 }
 
 // The handle of the link, if there is one.
 pub fn connected_handle(state: State, store: &[u8]) -> Handle
     ensures { result ≡ handle (reading state) (length store.now) }
 {
-    let core = state.core;
-    let tables = state.tables;
-    state_readers::connected_handle(core, &tables, store)
+    state_readers::connected_handle(state.core, &state.tables, store)
 }
 
 // The kept result of an index.
 pub fn result(state: State, store: &[u8], index: u32) -> Given
     ensures { result ≡ result_answer (reading state) (length store.now) index }
 {
-    let core = state.core;
-    let tables = state.tables;
-    state_readers::result(core, &tables, store, index)
+    state_readers::result(state.core, &state.tables, store, index)
 }

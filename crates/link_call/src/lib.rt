@@ -18,8 +18,9 @@ ghost use Rattle.central_answers.specs.Answers.{outcome};
 ghost use Rattle.link_call.specs.Leaves.{FragmentLeaves};
 
 use att_pdu::{err, op};
-use central_answers::Answer;
+use central_answers::{Answer, UNSENT};
 use l2cap::cid;
+use state::Sent;
 use state_core::{Core, Turn};
 use time::Micros;
 
@@ -191,9 +192,9 @@ pub fn on_fragment(
     at: Micros,
     start: bool,
     fragment: &[u8],
-) -> Answer
+) -> Answer<Core, Sent>
     ensures out_after { outcome result tables.new store.new out.new ≡ on_fragment (central core tables.old) store.old out.old at start fragment.now }
-    ensures refused { FragmentLeaves (told_number result.refusal) core result.core tables.old tables.new store.old store.new
+    ensures refused { FragmentLeaves (told_number result.refusal) core result.state tables.old tables.new store.old store.new
         × ((told_number result.refusal ≡ 0 → ⊥) → out.new ≡ out.old) }
 {
     let n = fragment.len();
@@ -207,9 +208,9 @@ pub fn on_fragment(
         n,
     ) {
         let left = link_frames::refusing(core, why);
-        return central_answers::refuse(left, why);
+        return central_answers::refuse(left, why, UNSENT);
     }
     let begun = central_answers::begin(core);
     let t = hear(begun, tables, store, out, at, start, fragment);
-    central_answers::done(t)
+    central_answers::done(t.core, t.sent)
 }

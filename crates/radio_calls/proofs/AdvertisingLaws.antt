@@ -3,6 +3,7 @@ use Prim.Native.Nat.{ℕ, ◌+◌, ◌≤◌, ◌<◌}
 use mathlib.Core.Path.{◌≡◌, refl, sym, ap, ◌∙◌}
 use mathlib.Core.Bool.{Bool, true, false, not, ◌&&◌, ◌||◌, true≢false}
 use mathlib.Core.List.{List}
+use Rattle.std.specs.Prelude.{Option, None}
 use native.Mathlib.Omega.{arith}
 use lib.ListN.{length, get_or, set}
 use lib.Dec.{eqb, ltb}
@@ -26,19 +27,30 @@ use Rattle.radio_rules.specs.Hearing.{Outcome, unchanged, then_data, Adv, line, 
 use Rattle.radio_rules.proofs.HearingLaws.{Passed, passed}
 use Rattle.words.specs.Tables.{Tables, tables, with_reports, with_keys, who_in, heard_in, keys_in}
 use Rattle.state_core.specs.declared.Core.{Core}
+use Rattle.state_refusals.specs.declared.Refusal.{Refusal}
+use Rattle.state_refusals.specs.Refusals.{told_number}
+use Rattle.state_refusals.proofs.RefusalLaws.{same-told}
 use Rattle.state_core.specs.Reading.{central_of, central}
+use Rattle.central_answers.specs.declared.Answer.{Answer}
 use Rattle.central_answers.specs.Answers.{Leaves}
-use Rattle.radio_calls.specs.declared.Advertised.{Advertised}
 use Rattle.radio_calls.specs.Kept.{reports_in, heard_line, kept_reports, kept_store, kept_place, Keeps}
 use Rattle.radio_calls.specs.Outcomes.{outcome}
 
 -- ---- an answer that leaves all as it is
 
-pub told : (core : Core) (w s : List ℕ) (r : Advertised) (n : ℕ) (x : Outcome)
-    → r ≡ record { core = core; refusal = n; action = action.Nothing } → unchanged (central core w) s n ≡ x
-    → (outcome r w s ≡ x) × Leaves r.refusal core r.core w w s s
-told core w s r n x e f =
-    (ap (λ (y : Advertised). outcome y w s) e ∙ f, λ m. (ap (λ (y : Advertised). y.core) e, refl, refl))
+pub told : (core : Core) (w s : List ℕ) (r : Answer Core AdvAction) (z : Option Refusal) (x : Outcome)
+    → r ≡ record { state = core; refusal = z; gives = action.Nothing } → unchanged (central core w) s (told_number z) ≡ x
+    → (outcome r w s ≡ x) × Leaves (told_number r.refusal) core r.state w w s s
+told core w s r z x e f =
+    (ap (λ (y : Answer Core AdvAction). outcome y w s) e ∙ f, λ m. (ap (λ (y : Answer Core AdvAction). y.state) e, refl, refl))
+
+-- ---- an answer of a call that is done
+
+pub gave : (core left : Core) (w v s t : List ℕ) (r : Answer Core AdvAction) (act : AdvAction) (x : Outcome)
+    → r ≡ record { state = left; refusal = None; gives = act } → record { state = central left v; refusal = 0; action = act; store = t } ≡ x
+    → (outcome r v t ≡ x) × Leaves (told_number r.refusal) core r.state w v s t
+gave core left w v s t r act x e f =
+    (ap (λ (y : Answer Core AdvAction). outcome y v t) e ∙ f, λ m. absurd (m (ap (λ (y : Answer Core AdvAction). told_number y.refusal) e)))
 
 -- ---- refusals
 
@@ -235,9 +247,14 @@ core_of c =
       options = c.options;
     }
 
-advertised_of : Outcome → Advertised
-advertised_of x = record { core = core_of x.state; refusal = x.refusal; action = x.action }
-
-pub one-advertised : (a b : Advertised) (w v s t : List ℕ) (x : Outcome) → outcome a w s ≡ x → outcome b v t ≡ x → (a ≡ b) × (s ≡ t)
-unfolding advertised_of core_of
-one-advertised a b w v s t x e f = (ap advertised_of (e ∙ sym f), ap (λ (y : Outcome). y.store) (e ∙ sym f))
+pub one-advertised : (a b : Answer Core AdvAction) (w v s t : List ℕ) (x : Outcome) → outcome a w s ≡ x → outcome b v t ≡ x → (a ≡ b) × (s ≡ t)
+unfolding core_of
+one-advertised a b w v s t x e f =
+    let same : outcome a w s ≡ outcome b v t = e ∙ sym f in (
+      λ i. record {
+        state = ap (λ (y : Outcome). core_of y.state) same i;
+        refusal = same-told a.refusal b.refusal (ap (λ (y : Outcome). y.refusal) same) i;
+        gives = ap (λ (y : Outcome). y.action) same i;
+      },
+      ap (λ (y : Outcome). y.store) same,
+    )

@@ -14,7 +14,7 @@ ghost use Rattle.central_answers.specs.Answers.{Leaves};
 ghost use Rattle.radio_calls.specs.Kept.{line_at, heard_line, Keeps};
 ghost use Rattle.radio_calls.specs.Outcomes.{outcome, taken};
 
-use central_answers::QuietAnswer;
+use central_answers::Answer;
 use radio_match::AdvAction;
 use state::Address;
 use state_core::Core;
@@ -22,14 +22,6 @@ use state_places::MAX_REPORTS;
 use state_refusals::Refusal;
 use time::Micros;
 use words_report::{NO_RESPONSE, Report};
-
-// What an advertisement leaves and asks for.
-#[derive(Clone, Copy)]
-pub struct Advertised {
-    pub core: Core,
-    pub refusal: Option<Refusal>,
-    pub action: AdvAction,
-}
 
 // Where the report of an advertisement stands, how many there are then, and the length of its scan response.
 #[derive(Clone, Copy)]
@@ -105,16 +97,6 @@ fn keep(
 
 // ---- the calls
 
-fn unchanged(core: Core, refusal: Option<Refusal>) -> Advertised
-    ensures { result ≡ record { core = core; refusal = refusal; action = AdvAction.Nothing } }
-{
-    Advertised {
-        core,
-        refusal,
-        action: AdvAction::Nothing,
-    }
-}
-
 // An advertisement.
 pub fn on_advertising(
     core: Core,
@@ -126,25 +108,25 @@ pub fn on_advertising(
     address: Address,
     data: &[u8],
     to_central: bool,
-) -> Advertised
+) -> Answer<Core, AdvAction>
     ensures store_after { outcome result tables.new store.new
         ≡ advertised (central core tables.old) store.old (adv at channel pdu address «data».now to_central) }
-    ensures refused { Leaves (told_number result.refusal) core result.core tables.old tables.new store.old store.new }
+    ensures refused { Leaves (told_number result.refusal) core result.state tables.old tables.new store.old store.new }
 {
     let gate = state_fit::gate_quiet(core, tables, store.len(), at);
     if let Err(why) = radio_rules::then_data(gate, data.len()) {
-        return unchanged(core, Some(why));
+        return central_answers::refuse(core, why, AdvAction::Nothing);
     }
     let running = core.running;
     if !radio_match::is_listening(running) {
-        return unchanged(core, None);
+        return central_answers::done(core, AdvAction::Nothing);
     }
     let key = adv_reports::key_of(address);
     let asked = core.key_count;
     let asks = radio_match::is_asking(running, pdu);
     let new = words_report::is_due(asks, tables, asked, key);
     if radio_rules::keys_full(new, asked) {
-        return unchanged(core, Some(Refusal::KeysFull));
+        return central_answers::refuse(core, Refusal::KeysFull, AdvAction::Nothing);
     }
     let kept = keep(tables, store, core.reports, key, at, channel, pdu, data);
     let mut o = core;
@@ -152,11 +134,7 @@ pub fn on_advertising(
     if new {
         words_report::put_key(tables, asked, key);
         o.key_count = asked + 1;
-        return Advertised {
-            core: o,
-            refusal: None,
-            action: AdvAction::ScanRequest,
-        };
+        return central_answers::done(o, AdvAction::ScanRequest);
     }
     let step = running.step;
     let action = radio_match::choose(
@@ -169,11 +147,7 @@ pub fn on_advertising(
         pdu,
         to_central,
     );
-    Advertised {
-        core: o,
-        refusal: None,
-        action,
-    }
+    central_answers::done(o, action)
 }
 
 // A scan response goes to its advertiser's report.
@@ -184,14 +158,14 @@ pub fn on_scan_response(
     at: Micros,
     address: Address,
     data: &[u8],
-) -> QuietAnswer
+) -> Answer<Core, ()>
     ensures store_after { taken result tables.new store.new
         ≡ scan_responded (central core tables.old) store.old at address «data».now }
-    ensures refused { Leaves (told_number result.refusal) core result.core tables.old tables.new store.old store.new }
+    ensures refused { Leaves (told_number result.refusal) core result.state tables.old tables.new store.old store.new }
 {
     let gate = state_fit::gate_quiet(core, tables, store.len(), at);
     if let Err(why) = radio_rules::then_data(gate, data.len()) {
-        return central_answers::refuse_quietly(core, why);
+        return central_answers::refuse(core, why, ());
     }
     let count = core.reports;
     let key = adv_reports::key_of(address);
@@ -202,7 +176,7 @@ pub fn on_scan_response(
         x.response = radio_rules::narrow(data.len());
         words_report::put_report(tables, i, x);
         adv_reports::put_response(store, i, data);
-        return central_answers::done_quietly(core);
+        return central_answers::done(core, ());
     }
-    central_answers::done_quietly(core)
+    central_answers::done(core, ())
 }

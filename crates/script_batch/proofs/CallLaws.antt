@@ -28,7 +28,7 @@ use Rattle.central_answers.specs.Answers.{outcome}
 
 module _ (c : Core) (w st out : List ℕ) (at : Micros) (b : Batch) (values : List ℕ) (g : ℕ)
     (e : g ≡ gate_batch (central c w) (length st) (length out) at b (length values)) where
-  pub batch-refused : (a : Answer) → (g ≡ 0 → ⊥) → ((x y z : List ℕ) → outcome a x y z ≡ refused (central c x) g y z)
+  pub batch-refused : (a : Answer Core Sent) → (g ≡ 0 → ⊥) → ((x y z : List ℕ) → outcome a x y z ≡ refused (central c x) g y z)
       → outcome a w st out ≡ push_steps (central c w) st out at b values
   unfolding push_steps
   batch-refused a h f =
@@ -51,7 +51,7 @@ module _ (c : Core) (w st out : List ℕ) (at : Micros) (b : Batch) (values : Li
       may-advance =
           (subst (λ (v : World). Sound 65 v) (sym begun) (pushed-sound (central c w) st out at b values shown), shown.shared.time)
 
-      pub batch-done : (r : Turn) (w₂ st₂ out₂ : List ℕ) (a : Answer) → world r w₂ st₂ out₂ ≡ advance (world t w₁ st₁ out) at
+      pub batch-done : (r : Turn) (w₂ st₂ out₂ : List ℕ) (a : Answer Core Sent) → world r w₂ st₂ out₂ ≡ advance (world t w₁ st₁ out) at
           → ((x y z : List ℕ) → outcome a x y z ≡ done (world r x y z)) → outcome a w₂ st₂ out₂ ≡ push_steps (central c w) st out at b values
       unfolding push_steps
       batch-done r w₂ st₂ out₂ a er ea =

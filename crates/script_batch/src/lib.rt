@@ -7,8 +7,9 @@ ghost use Rattle.script_rules.specs.Batch.{gate_batch, push_steps};
 ghost use Rattle.state_core.specs.Reading.{central};
 ghost use Rattle.central_answers.specs.Answers.{outcome, Leaves};
 
-use central_answers::Answer;
+use central_answers::{Answer, UNSENT};
 use script_rules::Batch;
+use state::Sent;
 use state_core::Core;
 use state_refusals::Refusal;
 use time::Micros;
@@ -46,9 +47,9 @@ pub fn push_steps(
     at: Micros,
     batch: Batch,
     values: &[u8],
-) -> Answer
+) -> Answer<Core, Sent>
     ensures out_after { outcome result tables.new store.new out.new ≡ push_steps (central core tables.old) store.old out.old at batch values.now }
-    ensures refused { Leaves (told_number result.refusal) core result.core tables.old tables.new store.old store.new × ((told_number result.refusal ≡ 0 → ⊥) → out.new ≡ out.old) }
+    ensures refused { Leaves (told_number result.refusal) core result.state tables.old tables.new store.old store.new × ((told_number result.refusal ≡ 0 → ⊥) → out.new ≡ out.old) }
 {
     if let Err(why) = gate_batch(
         core,
@@ -59,9 +60,9 @@ pub fn push_steps(
         batch,
         values.len(),
     ) {
-        return central_answers::refuse(core, why);
+        return central_answers::refuse(core, why, UNSENT);
     }
     let queued = script_queue::push_all(core, tables, store, values, batch);
     let t = script_run::advance(central_answers::begin(queued), tables, store, out, at);
-    central_answers::done(t)
+    central_answers::done(t.core, t.sent)
 }

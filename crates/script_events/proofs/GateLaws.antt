@@ -22,14 +22,13 @@ use Rattle.state_core.specs.declared.Core.{Core}
 use Rattle.state_core.specs.declared.Turn.{Turn}
 use Rattle.state_core.specs.Reading.{central, held, world}
 use Rattle.central_answers.specs.declared.Answer.{Answer}
-use Rattle.central_answers.specs.declared.QuietAnswer.{QuietAnswer}
 use Rattle.central_answers.specs.Answers.{outcome, quiet}
 
 -- ---- of a call that may send: f is what it does
 
 -- g is its gate, of which the first three refusals are the shared ones
 module _ (f : World → World) (c : Core) (w st out : List ℕ) (g n : ℕ) (e : n ≡ g) where
-  pub call-refused : (a : Answer) → (n ≡ 0 → ⊥) → ((x y z : List ℕ) → outcome a x y z ≡ refused (central c x) n y z)
+  pub call-refused : (a : Answer Core Sent) → (n ≡ 0 → ⊥) → ((x y z : List ℕ) → outcome a x y z ≡ refused (central c x) n y z)
       → outcome a w st out ≡ pick (eqb g accepted) (done (f (begins (central c w) st out))) (refused (central c w) g st out)
   call-refused a h ea = ea w st out ∙ ap (λ (k : ℕ). refused (central c w) k st out) e ∙ sym (is-stopped n g e _ _ h)
 
@@ -37,7 +36,7 @@ module _ (f : World → World) (c : Core) (w st out : List ℕ) (g n : ℕ) (e :
     pub call-begins : Sound 65 (begins (central c w) st out) → Sound 65 (world t w st out)
     call-begins m = subst (λ (v : World). Sound 65 v) (sym (b w st out)) m
 
-    pub call-done : (r : Turn) (w₂ st₂ out₂ : List ℕ) (a : Answer) → world r w₂ st₂ out₂ ≡ f (world t w st out)
+    pub call-done : (r : Turn) (w₂ st₂ out₂ : List ℕ) (a : Answer Core Sent) → world r w₂ st₂ out₂ ≡ f (world t w st out)
         → ((x y z : List ℕ) → outcome a x y z ≡ done (world r x y z))
         → outcome a w₂ st₂ out₂ ≡ pick (eqb g accepted) (done (f (begins (central c w) st out))) (refused (central c w) g st out)
     call-done r w₂ st₂ out₂ a er ea = ea w₂ st₂ out₂ ∙ ap done (er ∙ ap f (b w st out)) ∙ sym (goes_through n g e _ _ h)
@@ -48,7 +47,7 @@ module _ (f : Held → Held) (c : Core) (w st : List ℕ) (at : Micros) (n : ℕ
   abbrev q : ℕ
   q = gate_quiet (central c w) (length st) at
 
-  pub quiet-refused : (a : QuietAnswer) → (n ≡ 0 → ⊥) → ((x y : List ℕ) → quiet a x y ≡ quietly_refused (central c x) n y)
+  pub quiet-refused : (a : Answer Core ⊤) → (n ≡ 0 → ⊥) → ((x y : List ℕ) → quiet a x y ≡ quietly_refused (central c x) n y)
       → quiet a w st ≡ pick (eqb q accepted) (quietly (f (held c w st))) (quietly_refused (central c w) q st)
   quiet-refused a h ea = ea w st ∙ ap (λ (k : ℕ). quietly_refused (central c w) k st) e ∙ sym (is-stopped n q e _ _ h)
 
@@ -56,7 +55,7 @@ module _ (f : Held → Held) (c : Core) (w st : List ℕ) (at : Micros) (n : ℕ
     pub quiet-begins : Whole (held c w st) × (at.0 ≤ latest)
     quiet-begins = may-begin-quietly (central c w) st at (sym e ∙ h)
 
-    pub quiet-done : (r : Core) (w₂ st₂ : List ℕ) (a : QuietAnswer) → held r w₂ st₂ ≡ f (held c w st)
+    pub quiet-done : (r : Core) (w₂ st₂ : List ℕ) (a : Answer Core ⊤) → held r w₂ st₂ ≡ f (held c w st)
         → ((x y : List ℕ) → quiet a x y ≡ quietly (held r x y))
         → quiet a w₂ st₂ ≡ pick (eqb q accepted) (quietly (f (held c w st))) (quietly_refused (central c w) q st)
     quiet-done r w₂ st₂ a er ea = ea w₂ st₂ ∙ ap quietly er ∙ sym (goes_through n q e _ _ h)

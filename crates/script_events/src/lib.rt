@@ -14,8 +14,8 @@ ghost use Rattle.state_counters.specs.Counters.{most_links};
 ghost use Rattle.state_core.specs.Reading.{central, held, world};
 ghost use Rattle.central_answers.specs.Answers.{outcome, quiet, Leaves};
 
-use central_answers::{Answer, QuietAnswer};
-use state::{Counters, Step, StepStatus};
+use central_answers::{Answer, UNSENT};
+use state::{Counters, Sent, Step, StepStatus};
 use state_core::{Core, Turn};
 use state_refusals::Refusal;
 use time::Micros;
@@ -70,16 +70,16 @@ pub fn on_timer(
     store: &mut [u8],
     out: &mut [u8],
     at: Micros,
-) -> Answer
+) -> Answer<Core, Sent>
     ensures out_after { outcome result tables.new store.new out.new ≡ on_timer (central core tables.old) store.old out.old at }
-    ensures refused { Leaves (told_number result.refusal) core result.core tables.old tables.new store.old store.new × ((told_number result.refusal ≡ 0 → ⊥) → out.new ≡ out.old) }
+    ensures refused { Leaves (told_number result.refusal) core result.state tables.old tables.new store.old store.new × ((told_number result.refusal ≡ 0 → ⊥) → out.new ≡ out.old) }
 {
     if let Err(why) = state_fit::gate(core, tables, store.len(), out.len(), at) {
-        return central_answers::refuse(core, why);
+        return central_answers::refuse(core, why, UNSENT);
     }
     let begun = central_answers::begin(core);
     let ended = expire(begun, tables, store, out, at);
-    central_answers::done(ended)
+    central_answers::done(ended.core, ended.sent)
 }
 
 // ---- a link comes
@@ -158,15 +158,15 @@ pub fn on_connected(
     out: &mut [u8],
     handle: u16,
     at: Micros,
-) -> Answer
+) -> Answer<Core, Sent>
     ensures out_after { outcome result tables.new store.new out.new ≡ on_connected (central core tables.old) store.old out.old handle at }
-    ensures refused { Leaves (told_number result.refusal) core result.core tables.old tables.new store.old store.new × ((told_number result.refusal ≡ 0 → ⊥) → out.new ≡ out.old) }
+    ensures refused { Leaves (told_number result.refusal) core result.state tables.old tables.new store.old store.new × ((told_number result.refusal ≡ 0 → ⊥) → out.new ≡ out.old) }
 {
     if let Err(why) = gate_connected(core, tables, store.len(), out.len(), at) {
-        return central_answers::refuse(core, why);
+        return central_answers::refuse(core, why, UNSENT);
     }
     let t = connect(central_answers::begin(core), tables, store, out, handle, at);
-    central_answers::done(t)
+    central_answers::done(t.core, t.sent)
 }
 
 // ---- a link goes
@@ -221,13 +221,13 @@ pub fn on_disconnected(
     tables: &mut [u64; 1152],
     store: &mut [u8],
     at: Micros,
-) -> QuietAnswer
+) -> Answer<Core, ()>
     ensures store_after { quiet result tables.new store.new ≡ on_disconnected (central core tables.old) store.old at }
-    ensures refused { Leaves (told_number result.refusal) core result.core tables.old tables.new store.old store.new }
+    ensures refused { Leaves (told_number result.refusal) core result.state tables.old tables.new store.old store.new }
 {
     if let Err(why) = state_fit::gate_quiet(core, tables, store.len(), at) {
-        return central_answers::refuse_quietly(core, why);
+        return central_answers::refuse(core, why, ());
     }
     let left = lose(core, tables, store, at);
-    central_answers::done_quietly(left)
+    central_answers::done(left, ())
 }

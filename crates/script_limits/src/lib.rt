@@ -34,13 +34,10 @@ fn all_fit(steps: [Placed; 64], count: usize, size: usize) -> bool
     requires { count ≤ most_steps }
     ensures { result ≡ all (placed_fits size) (take count steps) }
 {
-    let mut i = 0;
-    while i < count {
-        let p = steps[i];
-        if !placed_fits(p, size) {
+    for p in &steps[..count] {
+        if !placed_fits(*p, size) {
             return false;
         }
-        i += 1;
     }
     true
 }

@@ -1,15 +1,17 @@
 -- The same of the calls on lent tables, by their contracts (crates script_batch, script_events, link_call, radio_calls, state_readers).
 -- A contract says of what a call leaves, x, that `tells x ≡ does (central core words)`: `tells` reads the answer with the words, store
 -- and output as they are then; `does` is the call's definition; `central core words` is the reading of the state that it is given.
-use Rattle.std.specs.Prelude.{ℕ, ◌≡◌, Bool, List, length}
+use Rattle.std.specs.Prelude.{ℕ, ◌≡◌, Bool, List, length, ⊤}
 use Rattle.time.specs.declared.Micros.{Micros}
 use Rattle.state.specs.Central.{Central}
+use Rattle.state.specs.declared.Sent.{Sent}
 use Rattle.state.specs.declared.Address.{Address}
 use Rattle.script_rules.specs.declared.Batch.{Batch}
 use Rattle.script_rules.specs.Outcome.{Outcome, Quiet}
 use Rattle.script_rules.specs.Batch as batch
 use Rattle.script_rules.specs.Events as events
 use Rattle.link_rules.specs.Link as link
+use Rattle.radio_match.specs.declared.AdvAction.{AdvAction}
 use Rattle.radio_rules.specs.Hearing as radio
 use Rattle.state_readers.specs.Readers as readers
 use Rattle.state_readers.specs.declared.Timer.{Timer}
@@ -19,9 +21,7 @@ use Rattle.state_readers.specs.declared.Passed.{Passed}
 use Rattle.state_core.specs.declared.Core.{Core}
 use Rattle.state_core.specs.Reading.{central}
 use Rattle.central_answers.specs.declared.Answer.{Answer}
-use Rattle.central_answers.specs.declared.QuietAnswer.{QuietAnswer}
 use Rattle.central_answers.specs.Answers as answers
-use Rattle.radio_calls.specs.declared.Advertised.{Advertised}
 use Rattle.radio_calls.specs.Outcomes as radio-answers
 use Rattle.thm_reading.specs.Live.{Alike}
 use Rattle.thm_reading.specs.Same.{SameOutcome, SameQuiet, SameHeard}
@@ -36,20 +36,20 @@ pub record Left (A : Type 0) : Type 0 where
 
 -- and the output
 pub record LeftOut : Type 0 where
-  pub left : Left Answer
+  pub left : Left (Answer Core Sent)
   pub out : List ℕ
 
 -- as the contracts read them
 abbrev pub sends : LeftOut → Outcome
 sends x = answers.outcome x.left.answer x.left.words x.left.store x.out
 
-abbrev pub silently : Left QuietAnswer → Quiet
+abbrev pub silently : Left (Answer Core ⊤) → Quiet
 silently x = answers.quiet x.answer x.words x.store
 
-abbrev pub hears : Left Advertised → radio.Outcome
+abbrev pub hears : Left (Answer Core AdvAction) → radio.Outcome
 hears x = radio-answers.outcome x.answer x.words x.store
 
-abbrev pub takes : Left QuietAnswer → radio.Outcome
+abbrev pub takes : Left (Answer Core ⊤) → radio.Outcome
 takes x = radio-answers.taken x.answer x.words x.store
 
 -- a reader's answer is all that it leaves
