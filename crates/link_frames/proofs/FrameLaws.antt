@@ -1,6 +1,6 @@
 -- What each return of the held bytes asks.
 use Prim.Native.Nat.{ℕ, ◌+◌, ◌-◌, ◌≤◌, ◌<◌}
-use mathlib.Core.Path.{◌≡◌, ap, ◌∙◌}
+use mathlib.Core.Path.{◌≡◌, refl, ap, ◌∙◌}
 use mathlib.Core.Bool.{Bool, true, false, not, ◌&&◌}
 use mathlib.Core.List.{List}
 use native.Mathlib.Omega.{arith}
@@ -16,13 +16,13 @@ use Rattle.time.specs.Clock.{too_late}
 use Rattle.state.specs.Central.{Central}
 use Rattle.state_rules.specs.Fit.{fits}
 use Rattle.state_rules.specs.Gate.{first_refusal, gate}
-use Rattle.state_rules.specs.Refusals.{long_frame}
+use Rattle.state_refusals.specs.declared.Refusal.{Refusal}
+use Rattle.state_refusals.specs.declared.Refusal.TheVariants.{Unfit, WrongSize, LateTime, BadBatch, CounterFull, LongData, LongFrame, KeysFull}
+use Rattle.state_refusals.specs.Refusals.{long_frame, number}
 use Rattle.link_rules.specs.Fragment.{with_held, held_before, gathered, whole, gate_fragment, refusing}
 use Rattle.link_rules.proofs.FragmentLaws as old
 use Rattle.state_core.specs.declared.Core.{Core}
 use Rattle.state_core.specs.Reading.{central, held}
-use Rattle.state_fit.specs.Parts.{core_fits}
-use Rattle.state_fit.proofs.FitLaws.{refused-core}
 
 -- ---- what is held
 
@@ -49,20 +49,19 @@ module _ (c : Core) (st : List ℕ) where
 
 -- ---- refusals
 
--- of a core that is not fit
-pub gate-core : (c : Core) (w : List ℕ) (store out : ℕ) (at : Micros) (start : Bool) (n : ℕ) (x : Bool) → x ≡ core_fits c → x ≡ false
-    → ◌≡◌ {A = ℕ} 1 (gate_fragment (central c w) store out at start n)
-gate-core c w store out at start n x e h =
-    old.gate-shared (central c w) store out at start n 1 (refused-core c w x _ _ e h) (λ (z : ◌≡◌ {A = ℕ} 1 0). omega arith)
-
--- refusals 1 to 3, from their tests
-pub gate-parts : (c : Central) (store out : ℕ) (at : Micros) (fit sized late : Bool) (g : ℕ) → fit ≡ fits c
-    → sized ≡ (eqb store store_size && leb output_size out) → late ≡ too_late at → g ≡ first_refusal fit sized (not late) → g ≡ gate c store out at
-gate-parts c store out at fit sized late g e f l h = h ∙ rw (e, f, l)
-
 pub refusing-long : (c r : Core) (why : ℕ) → why ≡ long_frame → ((w : List ℕ) → central r w ≡ with_held (central c w) 0)
     → (w : List ℕ) → central r w ≡ refusing (central c w) why
 refusing-long c r why h e w = old.refusing-long (central c w) (central r w) why h (e w)
 
-pub refusing-else : (c : Core) (why : ℕ) → (why ≡ long_frame → ⊥) → (w : List ℕ) → central c w ≡ refusing (central c w) why
-refusing-else c why h w = old.refusing-else (central c w) (central c w) why h
+pub refusing-else : (c : Core) (why : Refusal) → (why ≡ LongFrame → ⊥) → (w : List ℕ) → central c w ≡ refusing (central c w) (number why)
+refusing-else c why h w = old.refusing-else (central c w) (central c w) (number why) (λ e. h (long-alone why e))
+  where
+    long-alone : (x : Refusal) → number x ≡ long_frame → x ≡ LongFrame
+    long-alone Unfit e = absurd (omega arith)
+    long-alone WrongSize e = absurd (omega arith)
+    long-alone LateTime e = absurd (omega arith)
+    long-alone BadBatch e = absurd (omega arith)
+    long-alone CounterFull e = absurd (omega arith)
+    long-alone LongData e = absurd (omega arith)
+    long-alone LongFrame e = refl
+    long-alone KeysFull e = absurd (omega arith)

@@ -8,6 +8,7 @@ use lib.ListN.{length}
 use Rattle.lists.specs.Queue.{all}
 use Rattle.state_places.specs.Sizes.{most_steps}
 use Rattle.time.specs.declared.Micros.{Micros}
+use Rattle.state.specs.declared.Sent.{Sent}
 use Rattle.time.specs.Clock.{latest}
 use Rattle.script_rules.specs.World.{Held, World, on_held}
 use Rattle.script_rules.specs.declared.Batch.{Batch}

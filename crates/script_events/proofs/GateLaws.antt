@@ -3,10 +3,12 @@ use Prim.Native.Nat.{ℕ, ◌≤◌, ◌<◌}
 use mathlib.Core.Path.{◌≡◌, sym, ap, subst, ◌∙◌}
 use mathlib.Core.Bool.{Bool, true, false}
 use mathlib.Core.List.{List}
+use Rattle.std.specs.Prelude.{⊤}
 use lib.ListN.{length}
 use lib.Dec.{eqb}
 use Rattle.bytes_base.specs.Choice.{pick}
 use Rattle.time.specs.declared.Micros.{Micros}
+use Rattle.state.specs.declared.Sent.{Sent}
 use Rattle.time.specs.Clock.{latest}
 use Rattle.state_refusals.specs.Refusals.{accepted, counter_full}
 use Rattle.state_counters.specs.Counters.{most_links}

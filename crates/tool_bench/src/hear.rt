@@ -64,9 +64,8 @@ pub fn round(
             data,
             false,
         );
-        let action = a.action;
-        c = a.core;
-        sum = told::with_call(sum, a.refusal, number_of(action));
+        c = a.state;
+        sum = told::with_call(sum, a.refusal, number_of(a.gives));
         who = after(who, count);
         i += 1;
     }

@@ -43,8 +43,8 @@ pub fn batches(
     while i < n {
         let at = Micros(i as u64);
         let a = script_batch::push_steps(idle, tables, store, out, at, steps, values);
-        let s = told::with_call(sum, a.refusal, a.core.counts.waiting);
-        sum = told::with_call(s, 0, a.core.counts.results);
+        let s = told::with_call(sum, a.refusal, a.state.counts.waiting);
+        sum = told::with_call(s, None, a.state.counts.results);
         i += 1;
     }
     sum
@@ -64,7 +64,7 @@ pub fn timers(
     while i < n {
         let ms = (i as u64) + 1;
         let a = script_events::on_timer(c, tables, store, out, Micros(ms * 1000));
-        c = a.core;
+        c = a.state;
         sum = told::with_call(sum, a.refusal, 0);
         i += 1;
     }
@@ -79,9 +79,9 @@ pub fn links(tables: &mut [u64; 1152], store: &mut [u8], out: &mut [u8], n: u32)
     while i < n {
         let at = Micros(i as u64);
         let met = script_events::on_connected(c, tables, store, out, row::HANDLE, at);
-        let parted = script_events::on_disconnected(met.core, tables, store, at);
-        c = parted.core;
-        let s = told::with_call(sum, met.refusal, met.core.bearer.link.handle as usize);
+        let parted = script_events::on_disconnected(met.state, tables, store, at);
+        c = parted.state;
+        let s = told::with_call(sum, met.refusal, met.state.bearer.link.handle as usize);
         sum = told::with_call(s, parted.refusal, c.counts.results);
         i += 1;
     }

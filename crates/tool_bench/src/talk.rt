@@ -19,8 +19,8 @@ pub fn fragments(
     while i < n {
         let at = Micros(i as u64);
         let a = link_call::on_fragment(c, tables, store, out, at, start, fragment);
-        c = a.core;
-        sum = told::with_call(sum, a.refusal, a.sent.bytes);
+        c = a.state;
+        sum = told::with_call(sum, a.refusal, a.gives.bytes);
         i += 1;
     }
     told::with_core(sum, c)

@@ -25,8 +25,7 @@ pub fn rounds(s: State, store: &mut [u8], out: &mut [u8], n: u32, data: &[u8]) -
         let answered = b.state;
         let c = central::on_timer(answered, store, out, at);
         t = c.state;
-        let action = a.action;
-        sum = told::with_call(sum, a.refusal, hear::number_of(action));
+        sum = told::with_call(sum, a.refusal, hear::number_of(a.gives));
         sum = told::with_call(sum, b.refusal, state_refusals::told_number(c.refusal) as usize);
         who = hear::after(who, 64);
         i += 1;

@@ -28,11 +28,10 @@ pub fn rounds(
             data,
             false,
         );
-        let b = radio_calls::on_scan_response(a.core, tables, store, at, hear::address(who), data);
-        let d = script_events::on_timer(b.core, tables, store, out, at);
-        c = d.core;
-        let action = a.action;
-        sum = told::with_call(sum, a.refusal, hear::number_of(action));
+        let b = radio_calls::on_scan_response(a.state, tables, store, at, hear::address(who), data);
+        let d = script_events::on_timer(b.state, tables, store, out, at);
+        c = d.state;
+        sum = told::with_call(sum, a.refusal, hear::number_of(a.gives));
         sum = told::with_call(sum, b.refusal, state_refusals::told_number(d.refusal) as usize);
         who = hear::after(who, 64);
         i += 1;

@@ -21,9 +21,8 @@ pub fn round(s: State, store: &mut [u8], n: u32, count: u32, data: &[u8]) -> u64
             data,
             false,
         );
-        let action = a.action;
         t = a.state;
-        sum = told::with_call(sum, a.refusal, hear::number_of(action));
+        sum = told::with_call(sum, a.refusal, hear::number_of(a.gives));
         who = hear::after(who, count);
         i += 1;
     }

@@ -12,7 +12,7 @@ pub fn batches(n: u32, ends: bool, store: &mut [u8], out: &mut [u8], values: &[u
     while i < n {
         let a = central::push_steps(idle, store, out, Micros(i as u64), steps, values);
         let s = told::with_call(sum, a.refusal, a.state.core.counts.waiting);
-        sum = told::with_call(s, 0, a.state.core.counts.results);
+        sum = told::with_call(s, None, a.state.core.counts.results);
         i += 1;
     }
     sum

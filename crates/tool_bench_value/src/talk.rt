@@ -18,7 +18,7 @@ pub fn fragments(
     while i < n {
         let a = central::on_fragment(t, store, out, Micros(i as u64), start, fragment);
         t = a.state;
-        sum = told::with_call(sum, a.refusal, a.sent.bytes);
+        sum = told::with_call(sum, a.refusal, a.gives.bytes);
         i += 1;
     }
     told::with_core(sum, t.core)

@@ -1,8 +1,9 @@
 // One thing after another happens and is given to the library. Nothing is told here.
 use crate::{steps, story};
-use central::{Advertised, Answer, QuietAnswer, State};
+use central::State;
+use central_answers::{Answer, UNSENT};
 use radio_match::AdvAction;
-use state::{Address, LinkRequest, Sent};
+use state::{Address, Sent};
 use state_readers::Timer;
 use state_refusals::Refusal;
 use story::{Happening, Part, What};
@@ -25,12 +26,6 @@ const HANDLE: u16 = 0x40;
 const CHANNEL: u8 = 37;
 
 const ADV_IND: u8 = 0;
-
-const UNSENT: Sent = Sent {
-    frames: 0,
-    bytes: 0,
-    request: LinkRequest::Nothing,
-};
 
 // A link layer carries a frame in fragments of so many bytes.
 pub const FRAGMENT: usize = 27;
@@ -68,36 +63,25 @@ struct Did {
     sent: Sent,
 }
 
-fn spoken(a: Answer) -> Did {
-    let state = a.state;
-    let sent = a.sent;
+fn did(state: State, refusal: Option<Refusal>, action: AdvAction, sent: Sent) -> Did {
     Did {
         state,
-        action: AdvAction::Nothing,
-        refusal: a.refusal,
+        action,
+        refusal,
         sent,
     }
 }
 
-fn quiet(a: QuietAnswer) -> Did {
-    let state = a.state;
-    Did {
-        state,
-        action: AdvAction::Nothing,
-        refusal: a.refusal,
-        sent: UNSENT,
-    }
+fn spoken(a: Answer<State, Sent>) -> Did {
+    did(a.state, a.refusal, AdvAction::Nothing, a.gives)
 }
 
-fn advertised(a: Advertised) -> Did {
-    let state = a.state;
-    let action = a.action;
-    Did {
-        state,
-        action,
-        refusal: a.refusal,
-        sent: UNSENT,
-    }
+fn quiet(a: Answer<State, ()>) -> Did {
+    did(a.state, a.refusal, AdvAction::Nothing, UNSENT)
+}
+
+fn advertised(a: Answer<State, AdvAction>) -> Did {
+    did(a.state, a.refusal, a.gives, UNSENT)
 }
 
 fn who(head: bool) -> Address {
@@ -121,7 +105,7 @@ fn after(s: &[u8], n: usize) -> &[u8] {
 }
 
 // A frame comes in, as one fragment or as a start and a continuation.
-fn heard(s: State, store: &mut [u8], out: &mut [u8], now: Micros, frame: &[u8]) -> Answer {
+fn heard(s: State, store: &mut [u8], out: &mut [u8], now: Micros, frame: &[u8]) -> Answer<State, Sent> {
     let a = central::on_fragment(s, store, out, now, true, first(frame, FRAGMENT));
     if frame.len() <= FRAGMENT {
         return a;

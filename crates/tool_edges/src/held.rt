@@ -1,6 +1,8 @@
 // What is held of a frame is 251 bytes at most; with more it is refused and dropped.
 use crate::known;
-use central::{Answer, State};
+use central::State;
+use central_answers::Answer;
+use state::Sent;
 use state_refusals::Refusal;
 use time::Micros;
 
@@ -75,7 +77,7 @@ fn tell(i: u32, why: Option<Refusal>, held: usize, notified: u64, state: bool) {
     known::same(b"; the rest of the state", state);
 }
 
-fn answered(a: Answer, i: u32, before: u64) -> State {
+fn answered(a: Answer<State, Sent>, i: u32, before: u64) -> State {
     let left = a.state;
     tell(
         i,
@@ -93,7 +95,7 @@ fn kept(store: bool, out: bool) {
     tool_say::line(b"");
 }
 
-fn hear(s: State, store: &mut [u8], out: &mut [u8], i: u32) -> Answer {
+fn hear(s: State, store: &mut [u8], out: &mut [u8], i: u32) -> Answer<State, Sent> {
     let mut frame = [0u8; TOO_LONG];
     fill(&mut frame, length(i));
     let start = is_start(i);

@@ -76,7 +76,7 @@ fn hear(h: Heard, store: &mut [u8], n: u32) -> Heard {
         false,
     );
     let state = a.state;
-    let action = a.action;
+    let action = a.gives;
     Heard {
         state,
         asked: std::num::wrapping_add_u64(h.asked, asked(action)),
@@ -161,7 +161,7 @@ fn one_more(s: State, store: &mut [u8], i: u32) -> State {
         false,
     );
     let left = a.state;
-    let action = a.action;
+    let action = a.gives;
     tell(
         i,
         a.refusal,

@@ -1,7 +1,8 @@
 // What the programs begin with: a head's characteristic that is known, a link, a batch; and what they say of every call.
-use central::{Answer, State};
+use central::State;
+use central_answers::Answer;
 use script_rules::{Batch, Placed};
-use state::Step;
+use state::{Sent, Step};
 use state_refusals::Refusal;
 use time::Micros;
 use uuid_value::Uuid;
@@ -56,7 +57,7 @@ pub fn push(
     place: usize,
     len: usize,
     values: &[u8],
-) -> Answer {
+) -> Answer<State, Sent> {
     let b = alike(step, count, place, len);
     central::push_steps(s, store, out, at, b, values)
 }

@@ -1,7 +1,8 @@
 // What a batch may be: 64 steps, an MTU of 247, a value of 244 bytes that lies inside the lent ones.
 use crate::known;
-use central::Answer;
-use state::Step;
+use central::State;
+use central_answers::Answer;
+use state::{Sent, Step};
 use state_refusals::Refusal;
 use time::{Micros, Millis};
 
@@ -25,7 +26,7 @@ fn fresh() -> u64 {
 }
 
 // What a fresh state's call gave, and whether it left the store as it was.
-fn answered(what: &[u8], a: Answer, store: bool) {
+fn answered(what: &[u8], a: Answer<State, Sent>, store: bool) {
     let left = a.state;
     tell(
         what,

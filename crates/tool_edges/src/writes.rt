@@ -1,6 +1,7 @@
 // A Write needs value + 3 <= MTU.
 use crate::known;
-use central::{Answer, State};
+use central::State;
+use central_answers::Answer;
 use state::{Sent, Step};
 use state_readers::Given;
 use state_refusals::Refusal;
@@ -28,9 +29,9 @@ fn ended(why: Option<Refusal>, sent: Sent, out: &[u8], g: Given, store: &[u8]) {
     tool_tells::result(0, g, store);
 }
 
-fn answered(a: Answer, store: &[u8], out: &[u8]) {
+fn answered(a: Answer<State, Sent>, store: &[u8], out: &[u8]) {
     let left = a.state;
-    let sent = a.sent;
+    let sent = a.gives;
     ended(a.refusal, sent, out, central::result(left, store, 0), store);
 }
 

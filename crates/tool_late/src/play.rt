@@ -1,7 +1,7 @@
 // One call after another, each told with what it sent and how steps ended in it.
 use crate::scripts;
 use central_answers::Answer;
-use state::Step;
+use state::{Sent, Step};
 use state_core::Core;
 use time::Micros;
 
@@ -50,9 +50,9 @@ fn tell_ends(before: Core, core: Core, tables: &[u64; 1152], store: &[u8]) {
     tell_end(before, core, tables, store, 3);
 }
 
-fn tell(before: Core, a: Answer, tables: &[u64; 1152], store: &[u8], out: &[u8]) -> Core {
-    let core = a.core;
-    let sent = a.sent;
+fn tell(before: Core, a: Answer<Core, Sent>, tables: &[u64; 1152], store: &[u8], out: &[u8]) -> Core {
+    let core = a.state;
+    let sent = a.gives;
     tool_tells::codes::refused(a.refusal);
     tool_tells::sent(sent, out);
     tell_ends(before, core, tables, store);
@@ -76,7 +76,7 @@ pub fn connect(
 pub fn disconnect(core: Core, tables: &mut [u64; 1152], store: &mut [u8], at: Micros) -> Core {
     happens(at, b": the link is gone");
     let a = script_events::on_disconnected(core, tables, store, at);
-    let left = a.core;
+    let left = a.state;
     left
 }
 

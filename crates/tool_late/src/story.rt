@@ -14,7 +14,7 @@ fn after(us: u64) -> Micros {
 
 fn asked(core: Core, tables: &mut [u64; 1152], store: &mut [u8], out: &mut [u8]) -> Core {
     let a = script_batch::push_steps(core, tables, store, out, BEGIN, scripts::discover(), b"");
-    let left = a.core;
+    let left = a.state;
     left
 }
 
@@ -26,7 +26,7 @@ fn answered(
     frame: &[u8],
 ) -> Core {
     let a = link_call::on_fragment(core, tables, store, out, BEGIN, true, frame);
-    let left = a.core;
+    let left = a.state;
     left
 }
 

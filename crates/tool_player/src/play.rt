@@ -1,7 +1,7 @@
 // One record: its call is made on the port and answered.
 use crate::{fresh, tell};
-use central_answers::Answer;
-use state::{LinkRequest, Options, Sent};
+use central_answers::{Answer, UNSENT};
+use state::{Options, Sent};
 use state_core::Core;
 use state_refusals::Refusal;
 use time::Micros;
@@ -23,12 +23,6 @@ const RESPONSE_ADDRESS_AT: usize = 8;
 const RESPONSE_DATA_AT: usize = 15;
 
 const FRAGMENT_AT: usize = 9;
-
-const UNSENT: Sent = Sent {
-    frames: 0,
-    bytes: 0,
-    request: LinkRequest::Nothing,
-};
 
 // What goes on from record to record, beside the tables, and whether it does.
 #[derive(Clone, Copy)]
@@ -101,16 +95,16 @@ fn read(
 
 // ---- the calls that change the state
 
-fn quiet(core: Core, refusal: Option<Refusal>) -> Answer {
+fn quiet(core: Core, refusal: Option<Refusal>) -> Answer<Core, Sent> {
     Answer {
-        core,
+        state: core,
         refusal,
-        sent: UNSENT,
+        gives: UNSENT,
     }
 }
 
 // The store and the output keep their bytes at a fresh state: no answer may depend on them.
-fn begin(tables: &mut [u64; 1152], options: Options) -> Answer {
+fn begin(tables: &mut [u64; 1152], options: Options) -> Answer<Core, Sent> {
     fresh::clear(tables);
     quiet(fresh::core(options), None)
 }
@@ -129,7 +123,7 @@ fn push(
     body: &[u8],
     store: &mut [u8],
     out: &mut [u8],
-) -> Answer {
+) -> Answer<Core, Sent> {
     let values = after(body, steps::values_at(body));
     let batch = steps::batch_of(body);
     script_batch::push_steps(core, tables, store, out, at_of(body), batch, values)
@@ -141,23 +135,23 @@ fn connect(
     body: &[u8],
     store: &mut [u8],
     out: &mut [u8],
-) -> Answer {
+) -> Answer<Core, Sent> {
     let handle = bytes_numbers::le16(body, HANDLE_AT);
     script_events::on_connected(core, tables, store, out, handle, at_of(body))
 }
 
-fn disconnect(core: Core, tables: &mut [u64; 1152], body: &[u8], store: &mut [u8]) -> Answer {
+fn disconnect(core: Core, tables: &mut [u64; 1152], body: &[u8], store: &mut [u8]) -> Answer<Core, Sent> {
     let a = script_events::on_disconnected(core, tables, store, at_of(body));
-    let left = a.core;
+    let left = a.state;
     quiet(left, a.refusal)
 }
 
-fn respond(core: Core, tables: &mut [u64; 1152], body: &[u8], store: &mut [u8]) -> Answer {
+fn respond(core: Core, tables: &mut [u64; 1152], body: &[u8], store: &mut [u8]) -> Answer<Core, Sent> {
     let random = is_set(body, record::RESPONSE_RANDOM_AT);
     let address = steps::address(body, RESPONSE_ADDRESS_AT, random);
     let heard = after(body, RESPONSE_DATA_AT);
     let a = radio_calls::on_scan_response(core, tables, store, at_of(body), address, heard);
-    let left = a.core;
+    let left = a.state;
     quiet(left, a.refusal)
 }
 
@@ -167,7 +161,7 @@ fn gather(
     body: &[u8],
     store: &mut [u8],
     out: &mut [u8],
-) -> Answer {
+) -> Answer<Core, Sent> {
     let start = is_set(body, record::START_AT);
     let fragment = after(body, FRAGMENT_AT);
     link_call::on_fragment(core, tables, store, out, at_of(body), start, fragment)
@@ -180,7 +174,7 @@ fn play(
     body: &[u8],
     store: &mut [u8],
     out: &mut [u8],
-) -> Answer {
+) -> Answer<Core, Sent> {
     match tag {
         record::FRESH => begin(tables, fresh::OLD_MODE),
         record::FRESH_WITH => begin(tables, options_in(body)),
@@ -217,8 +211,8 @@ fn hear(
         heard,
         to_central,
     );
-    let left = a.core;
-    let action = a.action;
+    let left = a.state;
+    let action = a.gives;
     let on = tell::advertised(to, a.refusal, action);
     Going { core: left, on }
 }
@@ -243,8 +237,8 @@ pub fn one_record(
         return hear(core, tables, r, store, to);
     }
     let a = play(core, tables, tag, r, store, out);
-    let left = a.core;
-    let sent = a.sent;
+    let left = a.state;
+    let sent = a.gives;
     let on = tell::answer(to, tag, a.refusal, sent, out);
     Going { core: left, on }
 }

@@ -1,4 +1,6 @@
 use mathlib.Core.Path.{refl}
+use Rattle.state_refusals.proofs.RefusalLaws.{not-accepted}
+use Rattle.central_answers.proofs.AnswerLaws.{refused-told, done-told, refused-leaves, not-refused}
 use Rattle.script_batch.proofs.CallLaws.{may-wait, may-advance, batch-done, batch-refused}
 use Rattle.script_batch.proofs.push_steps.Goals as goal
 
@@ -7,42 +9,37 @@ push_all-queued-requires c =
     let a = c.args in
     may-wait
     a.core a.tables.now a.store.now a.out.now a.at a.batch a.values.now
-    _ c.gate_batch-refusal.ensures
-    c.if-refusal-eq-ACCEPTED.true
+    _ c.in_default.ensures refl
 
 pub advance-t-requires : goal.advance-t-requires
 advance-t-requires c =
     let a = c.args in
     may-advance
     a.core a.tables.now a.store.now a.out.now a.at a.batch a.values.now
-    _ c.gate_batch-refusal.ensures
-    c.if-refusal-eq-ACCEPTED.true
+    _ c.in_default.ensures refl
     _ _ _ c.push_all-queued.ensures
     _ c.begin.ensures
 
-pub returns-then-refusal-eq-ACCEPTED : goal.returns-then-refusal-eq-ACCEPTED
-returns-then-refusal-eq-ACCEPTED c =
-    let a = c.args in
-    let d = c.done.ensures in record {
-      out_after = batch-done
+pub returns-in-Err : goal.returns-in-Err
+returns-in-Err c =
+    let a = c.args in record {
+      out_after = batch-refused
           a.core a.tables.now a.store.now a.out.now a.at a.batch a.values.now
-          _ c.gate_batch-refusal.ensures
-          c.if-refusal-eq-ACCEPTED.true
-          _ _ _ c.push_all-queued.ensures
-          _ c.begin.ensures
-          _ _ _ _ _ c.advance-t.ensures
-          d.1;
-      refused = (λ h. absurd (h d.0), λ h. absurd (h d.0));
+          _ c.in-Err.ensures
+          _ (not-accepted c.in-Err.why)
+          (refused-told a.core c.in-Err.why _ c.refuse.ensures);
+      refused = (refused-leaves _ a.core c.in-Err.why _ c.refuse.ensures _ _, λ h. refl);
     }
 
 pub returns : goal.returns
 returns c =
-    let a = c.args in
-    let d = c.refuse.ensures in record {
-      out_after = batch-refused
+    let a = c.args in record {
+      out_after = batch-done
           a.core a.tables.now a.store.now a.out.now a.at a.batch a.values.now
-          _ c.gate_batch-refusal.ensures
-          _ c.if-refusal-eq-ACCEPTED.false
-          d.2;
-      refused = (λ h. (d.0, refl, refl), λ h. refl);
+          _ c.in_default.ensures refl
+          _ _ _ c.push_all-queued.ensures
+          _ c.begin.ensures
+          _ _ _ _ _ c.advance-t.ensures
+          (done-told _ _ c.done.ensures);
+      refused = (not-refused _ _ _ c.done.ensures, not-refused _ _ _ c.done.ensures);
     }

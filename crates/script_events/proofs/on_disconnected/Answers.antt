@@ -1,4 +1,6 @@
 use mathlib.Core.Path.{refl}
+use Rattle.state_refusals.proofs.RefusalLaws.{not-accepted}
+use Rattle.central_answers.proofs.AnswerLaws.{refused-quietly, done-quietly, refused-leaves, not-refused}
 use Rattle.script_events.proofs.GateLaws.{quiet-begins, quiet-done, quiet-refused}
 use Rattle.script_rules.specs.Comings.{lose}
 use Rattle.script_rules.specs.Events.{on_disconnected}
@@ -10,32 +12,28 @@ lose-left-requires c =
     let a = c.args in
     quiet-begins (λ (h : Held). lose h a.at)
     a.core a.tables.now a.store.now a.at
-    _ c.gate_quiet-refusal.ensures
-    c.if-refusal-eq-ACCEPTED.true
+    _ c.in_default.ensures refl
 
-pub returns-then-refusal-eq-ACCEPTED : goal.returns-then-refusal-eq-ACCEPTED
+pub returns-in-Err : goal.returns-in-Err
 unfolding on_disconnected
-returns-then-refusal-eq-ACCEPTED c =
-    let a = c.args in
-    let d = c.done_quietly.ensures in record {
-      store_after = quiet-done (λ (h : Held). lose h a.at)
+returns-in-Err c =
+    let a = c.args in record {
+      store_after = quiet-refused (λ (h : Held). lose h a.at)
           a.core a.tables.now a.store.now a.at
-          _ c.gate_quiet-refusal.ensures
-          c.if-refusal-eq-ACCEPTED.true
-          _ _ _ _ c.lose-left.ensures
-          d.1;
-      refused = λ h. absurd (h d.0);
+          _ c.in-Err.ensures
+          _ (not-accepted c.in-Err.why)
+          (refused-quietly a.core c.in-Err.why _ c.refuse.ensures);
+      refused = refused-leaves _ a.core c.in-Err.why _ c.refuse.ensures _ _;
     }
 
 pub returns : goal.returns
 unfolding on_disconnected
 returns c =
-    let a = c.args in
-    let d = c.refuse_quietly.ensures in record {
-      store_after = quiet-refused (λ (h : Held). lose h a.at)
+    let a = c.args in record {
+      store_after = quiet-done (λ (h : Held). lose h a.at)
           a.core a.tables.now a.store.now a.at
-          _ c.gate_quiet-refusal.ensures
-          _ c.if-refusal-eq-ACCEPTED.false
-          d.2;
-      refused = λ h. (d.0, refl, refl);
+          _ c.in_default.ensures refl
+          _ _ _ _ c.lose-left.ensures
+          (done-quietly _ _ c.done.ensures);
+      refused = not-refused _ _ _ c.done.ensures;
     }

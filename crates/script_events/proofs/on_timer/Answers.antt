@@ -1,4 +1,6 @@
-use mathlib.Core.Path.{refl, sym, ◌∙◌}
+use mathlib.Core.Path.{refl, sym}
+use Rattle.state_refusals.proofs.RefusalLaws.{not-accepted}
+use Rattle.central_answers.proofs.AnswerLaws.{refused-told, done-told, refused-leaves, not-refused}
 use Rattle.script_events.proofs.GateLaws.{call-begins, call-done, call-refused}
 use Rattle.script_rules.proofs.CallBeginLaws.{may-begin}
 use Rattle.state_core.specs.Reading.{central}
@@ -10,41 +12,36 @@ use Rattle.script_events.proofs.on_timer.Goals as goal
 pub expire-ended-requires : goal.expire-ended-requires
 expire-ended-requires c =
     let a = c.args in
-    let m = may-begin (central a.core a.tables.now) a.store.now a.out.now a.at
-    (sym c.gate-refusal.ensures ∙ c.if-refusal-eq-ACCEPTED.true) in (
+    let m = may-begin (central a.core a.tables.now) a.store.now a.out.now a.at (sym c.in_default.ensures) in (
       call-begins (λ (w : World). expire w a.at)
           a.core a.tables.now a.store.now a.out.now
-          _ _ c.gate-refusal.ensures
-          c.if-refusal-eq-ACCEPTED.true
+          _ _ c.in_default.ensures refl
           _ c.begin-begun.ensures
           m.0,
       m.1,
     )
 
-pub returns-then-refusal-eq-ACCEPTED : goal.returns-then-refusal-eq-ACCEPTED
+pub returns-in-Err : goal.returns-in-Err
 unfolding on_timer
-returns-then-refusal-eq-ACCEPTED c =
-    let a = c.args in
-    let d = c.done.ensures in record {
-      out_after = call-done (λ (w : World). expire w a.at)
+returns-in-Err c =
+    let a = c.args in record {
+      out_after = call-refused (λ (w : World). expire w a.at)
           a.core a.tables.now a.store.now a.out.now
-          _ _ c.gate-refusal.ensures
-          c.if-refusal-eq-ACCEPTED.true
-          _ c.begin-begun.ensures
-          _ _ _ _ _ c.expire-ended.ensures
-          d.1;
-      refused = (λ h. absurd (h d.0), λ h. absurd (h d.0));
+          _ _ c.in-Err.ensures
+          _ (not-accepted c.in-Err.why)
+          (refused-told a.core c.in-Err.why _ c.refuse.ensures);
+      refused = (refused-leaves _ a.core c.in-Err.why _ c.refuse.ensures _ _, λ h. refl);
     }
 
 pub returns : goal.returns
 unfolding on_timer
 returns c =
-    let a = c.args in
-    let d = c.refuse.ensures in record {
-      out_after = call-refused (λ (w : World). expire w a.at)
+    let a = c.args in record {
+      out_after = call-done (λ (w : World). expire w a.at)
           a.core a.tables.now a.store.now a.out.now
-          _ _ c.gate-refusal.ensures
-          _ c.if-refusal-eq-ACCEPTED.false
-          d.2;
-      refused = (λ h. (d.0, refl, refl), λ h. refl);
+          _ _ c.in_default.ensures refl
+          _ c.begin-begun.ensures
+          _ _ _ _ _ c.expire-ended.ensures
+          (done-told _ _ c.done.ensures);
+      refused = (not-refused _ _ _ c.done.ensures, not-refused _ _ _ c.done.ensures);
     }
