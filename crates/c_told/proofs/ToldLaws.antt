@@ -1,5 +1,6 @@
 -- What the words of an answer say is that answer.
 use Prim.Native.Nat.{ℕ}
+use Rattle.std.specs.Prelude.{Option, Some, None}
 use mathlib.Core.Path.{◌≡◌, refl, sym, ap}
 use Rattle.state.specs.declared.Sent.{Sent}
 use Rattle.state.specs.declared.LinkRequest.{LinkRequest}
@@ -12,12 +13,12 @@ pub answer-refusal : (why : ℕ) (s : Sent) → refusal_in (answer_words why s) 
 unfolding refusal_in
 answer-refusal why s = refl
 
-by-request : (why frames bytes : ℕ) (q : LinkRequest)
+by-request : (why frames bytes : ℕ) (q : Option LinkRequest)
     → ◌≡◌ {A = Sent} (sent_in (answer_words why (record { frames = frames; bytes = bytes; request = q }))) (record { frames = frames; bytes = bytes; request = q })
 unfolding sent_in
-by-request why frames bytes request.Nothing = refl
-by-request why frames bytes (request.Update interval latency timeout) = refl
-by-request why frames bytes (request.Terminate reason) = refl
+by-request why frames bytes None = refl
+by-request why frames bytes (Some (request.Update interval latency timeout)) = refl
+by-request why frames bytes (Some (request.Terminate reason)) = refl
 
 pub answer-sent : (why : ℕ) (s : Sent) → sent_in (answer_words why s) ≡ s
 answer-sent why s = by-request why s.frames s.bytes s.request
@@ -39,9 +40,9 @@ advertised-action why action.ScanRequest = refl
 advertised-action why (action.Connect interval latency timeout) = refl
 
 -- what was sent, with its request named
-pub answer-law : (why : ℕ) (s : Sent) (q : LinkRequest) → s.request ≡ q
+pub answer-law : (why : ℕ) (s : Sent) (q : Option LinkRequest) → s.request ≡ q
     → answer_words why (record { frames = s.frames; bytes = s.bytes; request = q }) ≡ answer_words why s
-answer-law why s q e = ap (λ (x : LinkRequest). answer_words why (record { frames = s.frames; bytes = s.bytes; request = x })) (sym e)
+answer-law why s q e = ap (λ (x : Option LinkRequest). answer_words why (record { frames = s.frames; bytes = s.bytes; request = x })) (sym e)
 
 pub quiet-action : (why : ℕ) → action_in (refusal_words why) ≡ action.Nothing
 unfolding action_in

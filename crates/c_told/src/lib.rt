@@ -38,12 +38,12 @@ pub fn answer_words(refusal: u8, sent: Sent) -> [u64; 8]
     let bytes = sent.bytes as u64;
     let request = sent.request;
     match request {
-        LinkRequest::Nothing => [why, frames, bytes, NOTHING, 0, 0, 0, 0],
-        LinkRequest::Update {
+        None => [why, frames, bytes, NOTHING, 0, 0, 0, 0],
+        Some(LinkRequest::Update {
             interval,
             latency,
             timeout,
-        } => [
+        }) => [
             why,
             frames,
             bytes,
@@ -53,7 +53,7 @@ pub fn answer_words(refusal: u8, sent: Sent) -> [u64; 8]
             timeout as u64,
             0,
         ],
-        LinkRequest::Terminate { reason } => {
+        Some(LinkRequest::Terminate { reason }) => {
             [why, frames, bytes, TERMINATE, 0, 0, 0, reason as u64]
         }
     }

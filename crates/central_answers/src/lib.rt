@@ -5,7 +5,7 @@ ghost use Rattle.std.specs.Prelude.{◌≡◌, List, ℕ, None, Some};
 ghost use Rattle.script_rules.specs.Outcome.{begins};
 ghost use Rattle.state_core.specs.Reading.{central, world};
 
-use state::{LinkRequest, Sent};
+use state::Sent;
 use state_core::{Core, Turn};
 use state_refusals::Refusal;
 
@@ -21,7 +21,7 @@ pub struct Answer<S, T> {
 pub const UNSENT: Sent = Sent {
     frames: 0,
     bytes: 0,
-    request: LinkRequest::Nothing,
+    request: None,
 };
 
 // A call begins: nothing was sent.

@@ -15,6 +15,7 @@ use Rattle.l2cap_signaling.specs.declared.SmpAnswer.{SmpAnswer}
 use Rattle.l2cap_signaling.specs.declared.Update as update
 use Rattle.l2cap_signaling.specs.declared.Update.TheVariants as update-variants
 use Rattle.lists.specs.Blocks.{bytes}
+use Rattle.std.specs.Prelude.{Some}
 use Rattle.state.specs.declared.LinkRequest.TheVariants.{Update}
 use Rattle.state.specs.declared.Sent.{Sent}
 use Rattle.script_rules.specs.World.{Told, told}
@@ -40,7 +41,7 @@ pub asks_nothing : (s : Sent) (u : update.Update) → u ≡ update-variants.Noth
 asks_nothing s u e o = sym (ap (asks_update (told s o)) e)
 
 pub asks-update : (s : Sent) (u : update.Update) (interval latency timeout : ℕ) → u ≡ update-variants.To interval latency timeout
-    → (o : List ℕ) → told (record { frames = s.frames; bytes = s.bytes; request = Update interval latency timeout }) o ≡ asks_update (told s o) u
+    → (o : List ℕ) → told (record { frames = s.frames; bytes = s.bytes; request = Some (Update interval latency timeout) }) o ≡ asks_update (told s o) u
 asks-update s u interval latency timeout e o = sym (ap (asks_update (told s o)) e)
 
 -- an answer has the bytes that go back, and room

@@ -1,5 +1,5 @@
 -- What goes back to the peer for a frame that is no response (Core Vol 3 Part A 4, Part H 3.5.5, Part F 3.4; 01, 'Rules of the link').
-use Rattle.std.specs.Prelude.{ℕ, ◌+◌, ◌-◌, max, min, Bool, true, false, List, take, eqb}
+use Rattle.std.specs.Prelude.{ℕ, ◌+◌, ◌-◌, max, min, Bool, true, false, List, Some, take, eqb}
 use Rattle.bytes_base.specs.Choice.{pick}
 use Rattle.bytes_base.specs.Bytes.{le_at}
 use Rattle.time.specs.declared.Micros.{Micros}
@@ -28,7 +28,7 @@ reply t channel n answer = pick (eqb n 0) t (send t channel (take n answer))
 abbrev pub asks_update : Told → update.Update → Told
 asks_update t update-variants.Nothing = t
 asks_update t (update-variants.To interval latency timeout) =
-    record { sent = record { frames = t.sent.frames; bytes = t.sent.bytes; request = Update interval latency timeout }; out = t.out }
+    record { sent = record { frames = t.sent.frames; bytes = t.sent.bytes; request = Some (Update interval latency timeout) }; out = t.out }
 
 unfoldable pub on_signaling : Told → List ℕ → Told
 on_signaling t pdu = let a = signaling_answer pdu in asks_update (reply t cid_signaling a.len a.bytes) a.update

@@ -36,11 +36,11 @@ fn ask_update(sent: Sent, update: Update) -> Sent
         } => Sent {
             frames: sent.frames,
             bytes: sent.bytes,
-            request: LinkRequest::Update {
+            request: Some(LinkRequest::Update {
                 interval,
                 latency,
                 timeout,
-            },
+            }),
         },
     }
 }

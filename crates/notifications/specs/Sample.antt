@@ -1,5 +1,5 @@
 -- Worked waits: 01's sample row of values joined, and its neighbours; what an age leaves out (02, One).
-use Rattle.std.specs.Prelude.{ℕ, ◌≡◌, refl, Bool, true, false, ◌&&◌, not, List, [], ◌∷◌, drop}
+use Rattle.std.specs.Prelude.{ℕ, ◌≡◌, refl, Bool, true, false, ◌&&◌, not, List, [], ◌∷◌, Some, None, drop}
 use Rattle.lists.specs.Blocks.{Valued}
 use Rattle.time.specs.Clock.{later}
 use Rattle.notifications.specs.Wait.{counts, any, seen, starts, contains, passes, newest_counted}
@@ -22,7 +22,7 @@ two = on 3 (0x46 ∷ 0x52 ∷ []) ∷ on 4 (0x45 ∷ 0x45 ∷ []) ∷ []
 
 -- a wait for any notification of a handle: neither the link nor the time counts
 abbrev of : ℕ → Wanted
-of h = record { handle = h; age = Any; linked = false; link = 7; now = record { 0 = 0 } }
+of h = record { handle = h; age = Any; link = None; now = record { 0 = 0 } }
 
 -- the rows; in the last two the wait searches from the second on
 abbrev pub rows : List Bool
@@ -50,7 +50,7 @@ sample = refl
 -- ---- with an age of 2 ms, on link 5, at 10,000 us
 
 abbrev aged : Wanted
-aged = record { handle = 3; age = Within (record { 0 = 2 }); linked = true; link = 5; now = record { 0 = 10000 } }
+aged = record { handle = 3; age = Within (record { 0 = 2 }); link = Some 5; now = record { 0 = 10000 } }
 
 abbrev heard : ℕ → ℕ → Notification
 heard link at = record { at = record { 0 = at }; handle = 3; len = 0; indication = false; link = link }
@@ -63,7 +63,7 @@ aged_rows =
     ∷ not (counts aged (heard 5 7999))
     ∷ not (counts aged (heard 5 10001))
     ∷ not (counts aged (heard 4 9000))
-    ∷ not (counts (record { handle = 3; age = Within (record { 0 = 2 }); linked = false; link = 5; now = record { 0 = 10000 } }) (heard 5 9000))
+    ∷ not (counts (record { handle = 3; age = Within (record { 0 = 2 }); link = None; now = record { 0 = 10000 } }) (heard 5 9000))
     ∷ []
 
 pub aged-sample : agree aged_rows ≡ true

@@ -1,5 +1,5 @@
 -- What a wait looks for: a run of bytes in the joined values of the notifications that count (01, 'Rules of the link'; 02, One).
-use Rattle.std.specs.Prelude.{ℕ, ◌+◌, Bool, true, false, ◌&&◌, ◌||◌, List, [], ◌∷◌, ◌++◌, eqb, leb}
+use Rattle.std.specs.Prelude.{ℕ, ◌+◌, Bool, true, false, ◌&&◌, ◌||◌, List, [], ◌∷◌, ◌++◌, Option, Some, None, eqb, leb}
 use Rattle.bytes_base.specs.Choice.{pick}
 use Rattle.lists.specs.Blocks.{Valued}
 use Rattle.time.specs.declared.Millis.{Millis}
@@ -9,9 +9,14 @@ use Rattle.notifications.specs.declared.Wanted.{Wanted}
 use Rattle.notifications.specs.declared.Age.{Age}
 use Rattle.notifications.specs.declared.Age.TheVariants.{Any, Within}
 
+-- whether a link's number is that of the link, if there is one
+abbrev pub is_of : Option ℕ → ℕ → Bool
+is_of None link = false
+is_of (Some present) link = eqb link present
+
 -- an aged wait's: of the present link, its time not after now and at most the age before now
 abbrev pub recent : Wanted → Millis → Notification → Bool
-recent w age x = w.linked && eqb x.link w.link && leb x.at.0 w.now.0 && leb w.now.0 (deadline x.at age).0
+recent w age x = is_of w.link x.link && leb x.at.0 w.now.0 && leb w.now.0 (deadline x.at age).0
 
 abbrev pub in_age : Wanted → Age → Notification → Bool
 in_age w Any x = true

@@ -20,19 +20,19 @@ pub struct Notification {
 }
 
 // How old a notification may be that a wait counts.
+// Kept: an own enum, since the request speaks of an age, and `Age::Any` says what a bare `None` does not: that every age will do.
 #[derive(Clone, Copy)]
 pub enum Age {
     Any,
     Within(Millis),
 }
 
-// What a wait goes by: its handle and its age; whether there is a link, and its number; the time of the call.
+// What a wait goes by: its handle and its age; the number of the link, if there is one; the time of the call.
 #[derive(Clone, Copy)]
 pub struct Wanted {
     pub handle: u16,
     pub age: Age,
-    pub linked: bool,
-    pub link: u64,
+    pub link: Option<u64>,
     pub now: Micros,
 }
 
@@ -68,11 +68,7 @@ pub fn skipped(notified: u64, kept: usize, wait_from: u64) -> usize
     ensures { result ≡ skipped_of notified kept wait_from }
 {
     let first = notified - kept as u64;
-    if wait_from <= first {
-        return 0;
-    }
-    let older = wait_from - first;
-    older as usize
+    wait_from.saturating_sub(first) as usize
 }
 
 // Whether it is of the present link, not after now, and at most the age before now.
@@ -82,18 +78,18 @@ fn is_recent(w: Wanted, age: Millis, x: Notification) -> bool
     let now = w.now;
     let at = x.at;
     let end = time::deadline(at, age);
-    w.linked & (x.link == w.link) & (at.0 <= now.0) & (now.0 <= end.0)
+    (w.link == Some(x.link)) & (at.0 <= now.0) & (now.0 <= end.0)
 }
 
 // Whether a notification counts for a wait.
+#[tactic(auto, unfolding(crate::specs::Wait::counts))]
 pub fn does_count(w: Wanted, x: Notification) -> bool
     ensures { result ≡ counts w x }
 {
     if x.handle != w.handle {
         return false;
     }
-    let age = w.age;
-    match age {
+    match w.age {
         Age::Any => true,
         Age::Within(ms) => is_recent(w, ms, x),
     }

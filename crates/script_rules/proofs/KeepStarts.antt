@@ -42,7 +42,7 @@ use Rattle.script_rules.specs.Ready.{Ready}
 use Rattle.script_rules.proofs.ReadyLaws.{ready-finish, ready-send}
 use Rattle.script_rules.specs.Discovery.{primary_service, characteristic_type, last_handle, placed, asking, discover_services, ask_range, discover_descriptors, discover_characteristics}
 use Rattle.script_rules.specs.declared.Awaited.{Awaited}
-use Rattle.script_rules.specs.declared.Awaited.TheVariants as awaited-variants
+use Rattle.std.specs.Prelude.{Option, Some, None}
 use Rattle.script_rules.specs.Wait.{wanted, wait_passes, passed_on, passed, passing, check_one, awaited, check_for, check_wait}
 use Rattle.script_rules.specs.Start.{ends, waits_for, start_alone, start_unlinked, forgotten, discover_in, configuration, subscribe_at, subscribe, commanded, write, read, terminated, asks_to, disconnect, named, start_linked, barred, start_on, start}
 use Rattle.script_rules.specs.Nearly.{Nearly}
@@ -152,10 +152,10 @@ module _ (h : Held) (at : Micros) (f : Nearly h.state) where
       go w true = stays-passing w
       go w false = stays h f
 
-  stays-check-for : (x : Awaited) → Stays h (check_for h at x)
+  stays-check-for : (x : Option Awaited) → Stays h (check_for h at x)
   unfolding check_for
-  stays-check-for awaited-variants.Nothing = stays h f
-  stays-check-for (awaited-variants.On u age) = stays-check-one age (characteristic_with u (known h.state.characteristics))
+  stays-check-for None = stays h f
+  stays-check-for (Some a) = stays-check-one a.age (characteristic_with a.characteristic (known h.state.characteristics))
 
   pub stays-check : Stays h (check_wait h at)
   unfolding check_wait

@@ -1,8 +1,7 @@
 -- All that a call gives and changes.
-use Rattle.std.specs.Prelude.{ℕ, List}
+use Rattle.std.specs.Prelude.{ℕ, List, None}
 use Rattle.state.specs.Central.{Central}
 use Rattle.state.specs.declared.Sent.{Sent}
-use Rattle.state.specs.declared.LinkRequest.TheVariants.{Nothing}
 use Rattle.state_rules.specs.Refusals.{accepted}
 use Rattle.script_rules.specs.World.{Held, World}
 
@@ -16,7 +15,7 @@ pub record Outcome : Type 0 where
 
 -- nothing was sent
 abbrev pub unsent : Sent
-unsent = record { frames = 0; bytes = 0; request = Nothing }
+unsent = record { frames = 0; bytes = 0; request = None }
 
 -- a call begins
 abbrev pub begins : Central → List ℕ → List ℕ → World

@@ -115,7 +115,7 @@ abbrev pub remote_user_terminated : ℕ
 remote_user_terminated = 0x13
 
 abbrev pub asks_to : Told → Told
-asks_to t = record { sent = record { frames = t.sent.frames; bytes = t.sent.bytes; request = Terminate remote_user_terminated }; out = t.out }
+asks_to t = record { sent = record { frames = t.sent.frames; bytes = t.sent.bytes; request = Some (Terminate remote_user_terminated) }; out = t.out }
 
 -- the link is asked to end, once
 unfoldable pub disconnect : World → World

@@ -18,7 +18,6 @@ use Rattle.state.specs.declared.StepStatus.TheVariants.{Ok, NotFound}
 use Rattle.state_rules.specs.Fit.{most_notified}
 use Rattle.script_rules.specs.World.{Held, on_state}
 use Rattle.script_rules.specs.declared.Awaited.{Awaited}
-use Rattle.script_rules.specs.declared.Awaited.TheVariants as awaited-variants
 use Rattle.script_rules.specs.Finish.{finish}
 use Rattle.gatt_characteristics.specs.declared.Characteristic.{Characteristic}
 
@@ -33,7 +32,7 @@ pub record Looks (c : Central) : Type 0 where
 
 -- what a wait on a handle goes by: its age, the present link, the time of the call
 abbrev pub wanted : Central → Micros → ℕ → Age → Wanted
-wanted c at handle age = record { handle = handle; age = age; linked = c.bearer.present; link = c.counters.links; now = at }
+wanted c at handle age = record { handle = handle; age = age; link = pick c.bearer.present (Some c.counters.links) None; now = at }
 
 -- how many of the kept notifications came before `wait_from`
 abbrev pub skipped : Central → ℕ
@@ -69,24 +68,24 @@ check_one h at age (Some x) =
     pick (wait_passes h w) (passing h at w) h
 
 -- the characteristic that a step waits on, and with which age: a WaitNotification's, and no other step's
-abbrev pub awaited : Step → Awaited
-awaited (Scan ms) = awaited-variants.Nothing
-awaited (Connect target interval latency timeout ms) = awaited-variants.Nothing
-awaited (ExchangeMtu mtu) = awaited-variants.Nothing
-awaited DiscoverServices = awaited-variants.Nothing
-awaited (DiscoverCharacteristics service) = awaited-variants.Nothing
-awaited (Subscribe characteristic indicate) = awaited-variants.Nothing
-awaited (Write characteristic response) = awaited-variants.Nothing
-awaited (Read characteristic) = awaited-variants.Nothing
-awaited (WaitNotification characteristic ms age) = awaited-variants.On characteristic age
-awaited (Wait ms) = awaited-variants.Nothing
-awaited Disconnect = awaited-variants.Nothing
-awaited (Capture enabled) = awaited-variants.Nothing
-awaited (CaptureSecrets secrets) = awaited-variants.Nothing
+abbrev pub awaited : Step → Option Awaited
+awaited (Scan ms) = None
+awaited (Connect target interval latency timeout ms) = None
+awaited (ExchangeMtu mtu) = None
+awaited DiscoverServices = None
+awaited (DiscoverCharacteristics service) = None
+awaited (Subscribe characteristic indicate) = None
+awaited (Write characteristic response) = None
+awaited (Read characteristic) = None
+awaited (WaitNotification characteristic ms age) = Some (record { characteristic = characteristic; age = age })
+awaited (Wait ms) = None
+awaited Disconnect = None
+awaited (Capture enabled) = None
+awaited (CaptureSecrets secrets) = None
 
-unfoldable pub check_for : Held → Micros → Awaited → Held
-check_for h at awaited-variants.Nothing = h
-check_for h at (awaited-variants.On u age) = check_one h at age (characteristic_with u (known h.state.characteristics))
+unfoldable pub check_for : Held → Micros → Option Awaited → Held
+check_for h at None = h
+check_for h at (Some a) = check_one h at a.age (characteristic_with a.characteristic (known h.state.characteristics))
 
 unfoldable pub check_wait : Held → Micros → Held
 check_wait h at = pick h.state.running.active (check_for h at (awaited h.state.running.step)) h

@@ -29,9 +29,9 @@ pub enum Alone {
     NeedsLink,
 }
 
-// What a step waits on, and how old a notification may be that it counts.
+// What a wait waits on, and how old a notification may be that it counts.
 #[derive(Clone, Copy)]
-pub enum Awaited {
-    Nothing,
-    On { characteristic: Uuid, age: Age },
+pub struct Awaited {
+    pub characteristic: Uuid,
+    pub age: Age,
 }

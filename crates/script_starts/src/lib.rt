@@ -94,9 +94,9 @@ fn start_disconnect(t: Turn) -> Turn
         sent: Sent {
             frames: sent.frames,
             bytes: sent.bytes,
-            request: LinkRequest::Terminate {
+            request: Some(LinkRequest::Terminate {
                 reason: REMOTE_USER_TERMINATED,
-            },
+            }),
         },
     }
 }

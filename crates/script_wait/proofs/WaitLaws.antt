@@ -22,7 +22,7 @@ use Rattle.state.specs.declared.Counters.{Counters}
 use Rattle.state.specs.declared.StepStatus.TheVariants.{Ok, NotFound}
 use Rattle.script_rules.specs.World.{Held}
 use Rattle.script_rules.specs.declared.Awaited.{Awaited}
-use Rattle.script_rules.specs.declared.Awaited.TheVariants as awaited-variants
+use Rattle.std.specs.Prelude.{Option, Some, None}
 use Rattle.script_rules.specs.Finish.{finish}
 use Rattle.script_rules.specs.Wait.{wanted, wait_passes, passed_on, passed, passing, check_one, awaited, check_for, check_wait}
 use Rattle.script_rules.specs.Start.{ends}
@@ -81,19 +81,19 @@ module _ (c : Core) (w st : List ℕ) where
     unfolding check_wait
     check-idle h = rw h
 
-    looks : (a k : Awaited) → c.running.active ≡ true → a ≡ awaited c.running.step → a ≡ k → check_for (held c w st) at k ≡ check_wait (held c w st) at
+    looks : (a k : Option Awaited) → c.running.active ≡ true → a ≡ awaited c.running.step → a ≡ k → check_for (held c w st) at k ≡ check_wait (held c w st) at
     unfolding check_wait
     looks a k h f g =
         ap (check_for (held c w st) at) (sym g ∙ f)
         ∙ sym (ap (λ (b : Bool). pick b (check_for (held c w st) at (awaited c.running.step)) (held c w st)) h)
 
-    pub check-other : (a : Awaited) → c.running.active ≡ true → a ≡ awaited c.running.step → a ≡ awaited-variants.Nothing
+    pub check-other : (a : Option Awaited) → c.running.active ≡ true → a ≡ awaited c.running.step → a ≡ None
         → held c w st ≡ check_wait (held c w st) at
     unfolding check_for
-    check-other a h f g = looks a awaited-variants.Nothing h f g
+    check-other a h f g = looks a None h f g
 
-    pub check-named : (a : Awaited) (u : Uuid) (age : Age) (x : Option Characteristic) (r : Held) → c.running.active ≡ true → a ≡ awaited c.running.step
-        → a ≡ awaited-variants.On u age → x ≡ characteristic_with u (take c.counts.characteristics (characteristics_in w))
+    pub check-named : (a : Option Awaited) (u : Uuid) (age : Age) (x : Option Characteristic) (r : Held) → c.running.active ≡ true → a ≡ awaited c.running.step
+        → a ≡ Some (record { characteristic = u; age = age }) → x ≡ characteristic_with u (take c.counts.characteristics (characteristics_in w))
         → r ≡ check_one (held c w st) at age x → r ≡ check_wait (held c w st) at
     unfolding check_for
-    check-named a u age x r h f g e k = k ∙ ap (check_one (held c w st) at age) e ∙ looks a (awaited-variants.On u age) h f g
+    check-named a u age x r h f g e k = k ∙ ap (check_one (held c w st) at age) e ∙ looks a (Some (record { characteristic = u; age = age })) h f g

@@ -197,10 +197,8 @@ pub struct Options {
     pub strict: bool,
 }
 
-// At most one in a call.
 #[derive(Clone, Copy)]
 pub enum LinkRequest {
-    Nothing,
     Update {
         interval: u16,
         latency: u16,
@@ -211,10 +209,10 @@ pub enum LinkRequest {
     },
 }
 
-// What a call has sent so far.
+// What a call has sent so far: at most one request to the link layer.
 #[derive(Clone, Copy)]
 pub struct Sent {
     pub frames: usize,
     pub bytes: usize,
-    pub request: LinkRequest,
+    pub request: Option<LinkRequest>,
 }

@@ -15,28 +15,18 @@ const MAX_REFUSED: u64 = COUNTER_END + 64;
 
 pub const LAST_INDEX: usize = 4_294_967_295;
 
-fn long(x: usize) -> u64
-    ensures { result ≡ x }
-{
-    x as u64
-}
-
 // Whether each of the waiting steps can still have an index.
 fn index_fits(next: u32, waiting: usize) -> bool
     ensures { result ≡ leb (next + waiting) last_index }
 {
-    if LAST_INDEX < waiting {
-        return false;
-    }
-    let first = next as usize;
-    let last = first + waiting;
-    last <= LAST_INDEX
+    waiting <= LAST_INDEX && next as usize + waiting <= LAST_INDEX
 }
 
+#[tactic(auto, unfolding(crate::specs::Counters::counters_fit))]
 pub fn counters_fit(k: Counters, n: Counts) -> bool
     ensures { result ≡ counters_fit k n }
 {
-    (long(n.notifications) <= k.notified)
+    (n.notifications as u64 <= k.notified)
         & (k.notified <= COUNTER_END)
         & (k.wait_from <= k.notified)
         & (k.refused_steps <= MAX_REFUSED)

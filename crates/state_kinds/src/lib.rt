@@ -7,6 +7,7 @@ ghost use Rattle.state_kinds.specs.Kinds.{kind_of, carries, att_step};
 use state::Step;
 
 // In the order in which they are declared; a trace numbers them so too (docs/TRACE.md, 'A batch').
+// Kept: numbers beside the enum `Step`, since the words that C lends and the traces hold them.
 pub const SCAN: u8 = 0;
 
 pub const CONNECT: u8 = 1;
@@ -37,35 +38,19 @@ pub fn kind_of(step: Step) -> u8
     ensures { result ≡ kind_of step }
 {
     match step {
-        Step::Scan { ms: _ } => SCAN,
-        Step::Connect {
-            target: _,
-            interval: _,
-            latency: _,
-            timeout: _,
-            within_ms: _,
-        } => CONNECT,
-        Step::ExchangeMtu { mtu: _ } => EXCHANGE_MTU,
+        Step::Scan { .. } => SCAN,
+        Step::Connect { .. } => CONNECT,
+        Step::ExchangeMtu { .. } => EXCHANGE_MTU,
         Step::DiscoverServices => DISCOVER_SERVICES,
-        Step::DiscoverCharacteristics { service: _ } => DISCOVER_CHARACTERISTICS,
-        Step::Subscribe {
-            characteristic: _,
-            indicate: _,
-        } => SUBSCRIBE,
-        Step::Write {
-            characteristic: _,
-            with_response: _,
-        } => WRITE,
-        Step::Read { characteristic: _ } => READ,
-        Step::WaitNotification {
-            characteristic: _,
-            within_ms: _,
-            age: _,
-        } => WAIT_NOTIFICATION,
-        Step::Wait { ms: _ } => WAIT,
+        Step::DiscoverCharacteristics { .. } => DISCOVER_CHARACTERISTICS,
+        Step::Subscribe { .. } => SUBSCRIBE,
+        Step::Write { .. } => WRITE,
+        Step::Read { .. } => READ,
+        Step::WaitNotification { .. } => WAIT_NOTIFICATION,
+        Step::Wait { .. } => WAIT,
         Step::Disconnect => DISCONNECT,
-        Step::Capture { enabled: _ } => CAPTURE,
-        Step::CaptureSecrets { secrets: _ } => CAPTURE_SECRETS,
+        Step::Capture { .. } => CAPTURE,
+        Step::CaptureSecrets { .. } => CAPTURE_SECRETS,
     }
 }
 
@@ -79,14 +64,20 @@ pub fn is_kind(step: Step, kind: u8) -> bool
 pub fn carries(step: Step) -> bool
     ensures { result ≡ carries step }
 {
-    let kind = kind_of(step);
-    (kind == WRITE) | (kind == WAIT_NOTIFICATION)
+    matches!(step, Step::Write { .. } | Step::WaitNotification { .. })
 }
 
 // Whether a step could send ATT: requests, and a Write without response a command.
 pub fn is_att(step: Step) -> bool
     ensures { result ≡ att_step step }
 {
-    let kind = kind_of(step);
-    (EXCHANGE_MTU <= kind) & (kind <= READ)
+    matches!(
+        step,
+        Step::ExchangeMtu { .. }
+            | Step::DiscoverServices
+            | Step::DiscoverCharacteristics { .. }
+            | Step::Subscribe { .. }
+            | Step::Write { .. }
+            | Step::Read { .. }
+    )
 }

@@ -26,53 +26,22 @@ fn mtu_named(step: Step) -> u16
     ensures { result ≡ mtu_named step }
 {
     match step {
-        Step::Scan { ms: _ } => 0,
-        Step::Connect {
-            target: _,
-            interval: _,
-            latency: _,
-            timeout: _,
-            within_ms: _,
-        } => 0,
         Step::ExchangeMtu { mtu } => mtu,
-        Step::DiscoverServices => 0,
-        Step::DiscoverCharacteristics { service: _ } => 0,
-        Step::Subscribe {
-            characteristic: _,
-            indicate: _,
-        } => 0,
-        Step::Write {
-            characteristic: _,
-            with_response: _,
-        } => 0,
-        Step::Read { characteristic: _ } => 0,
-        Step::WaitNotification {
-            characteristic: _,
-            within_ms: _,
-            age: _,
-        } => 0,
-        Step::Wait { ms: _ } => 0,
-        Step::Disconnect => 0,
-        Step::Capture { enabled: _ } => 0,
-        Step::CaptureSecrets { secrets: _ } => 0,
+        _ => 0,
     }
 }
 
 // Whether a batch accepts a step with len bytes.
+#[tactic(auto, unfolding(crate::specs::Steps::step_fits))]
 pub fn step_fits(step: Step, len: usize) -> bool
     ensures { result ≡ step_fits step len }
 {
     (!state_kinds::carries(step) | (len <= state_places::MAX_VALUE)) & (mtu_named(step) <= MAX_MTU)
 }
 
-fn wide(x: u8) -> usize
-    ensures { result ≡ x }
-{
-    x as usize
-}
-
 // ---- the core
 
+#[tactic(auto, unfolding(crate::specs::Fit::counts_fit))]
 fn counts_fit(n: Counts, reports: usize, keys: usize) -> bool
     ensures { result ≡ counts_fit n reports keys }
 {
@@ -85,13 +54,14 @@ fn counts_fit(n: Counts, reports: usize, keys: usize) -> bool
         & (keys <= state_places::MAX_KEYS)
 }
 
+#[tactic(auto, unfolding(crate::specs::Parts::step_fit))]
 fn running_fits(r: Running, waiting: usize) -> bool
     ensures { result ≡ step_fit r waiting }
 {
     let active = r.active;
     let step = r.step;
     let at = r.deadline;
-    (!active | step_fits(step, wide(r.len)))
+    (!active | step_fits(step, usize::from(r.len)))
         & (!active | (r.phase <= LAST_PHASE))
         & (active | (waiting == 0))
         & (!(active & r.dated) | (at.0 <= LAST_DEADLINE))
@@ -109,6 +79,7 @@ fn is_request(opcode: u8) -> bool
         | (opcode == op::WRITE_REQ)
 }
 
+#[tactic(auto, unfolding(crate::specs::Parts::bearer_fits))]
 fn bearer_fits(b: Bearer, r: Running) -> bool
     ensures { result ≡ bearer_fits b r }
 {
@@ -124,6 +95,7 @@ fn bearer_fits(b: Bearer, r: Running) -> bool
 }
 
 // All of fit but the tables.
+#[tactic(auto, unfolding(crate::specs::Parts::head_fits))]
 pub fn head_fit(n: Counts, k: Counters, b: Bearer, r: Running, reports: usize, keys: usize) -> bool
     ensures { result ≡ head_fits n k b r reports keys }
 {

@@ -28,7 +28,7 @@ use Rattle.script_rules.specs.Discovery.{characteristic_type, asking, discover_s
 use Rattle.script_rules.specs.declared.Alone.{Alone}
 use Rattle.script_rules.specs.declared.Alone.TheVariants as alone
 use Rattle.script_rules.specs.declared.Awaited.{Awaited}
-use Rattle.script_rules.specs.declared.Awaited.TheVariants as awaited-variants
+use Rattle.std.specs.Prelude.{Option, Some, None}
 use Rattle.script_rules.specs.Wait.{wanted, wait_passes, passed_on, passed, passing, check_one, awaited, check_for, check_wait}
 use Rattle.script_rules.specs.Start.{ends, waits_for, unlinked_step, start_alone, start_unlinked, forgotten, discover_in, subscribe_at, subscribe, commanded, write, read, terminated, asks_to, disconnect, start_linked, barred, start_on, start}
 use Rattle.thm_accounting.proofs.Gives.{Whole, Gives, nothing, gives_none, gives_then, Apart, apart, apart-state, gives-finish, whole_same}
@@ -89,10 +89,10 @@ gives_one h at age (Some x) k = let w = wanted h.state at x.value_handle age in 
     go w true = gives-passing h at w k
     go w false = gives_none h
 
-gives-for : (h : Held) (at : Micros) (x : Awaited) → Whole h → Gives at h (check_for h at x)
+gives-for : (h : Held) (at : Micros) (x : Option Awaited) → Whole h → Gives at h (check_for h at x)
 unfolding check_for
-gives-for h at awaited-variants.Nothing k = gives_none h
-gives-for h at (awaited-variants.On u age) k = gives_one h at age _ k
+gives-for h at None k = gives_none h
+gives-for h at (Some a) k = gives_one h at a.age _ k
 
 pub gives-check : (h : Held) (at : Micros) → Whole h → Gives at h (check_wait h at)
 unfolding check_wait

@@ -20,7 +20,7 @@ use Rattle.state_rules.specs.Steps.{att_step}
 use Rattle.script_rules.specs.World.{Held, World, on_held, on_told}
 use Rattle.script_rules.specs.Send.{send}
 use Rattle.script_rules.specs.declared.Awaited.{Awaited}
-use Rattle.script_rules.specs.declared.Awaited.TheVariants as awaited-variants
+use Rattle.std.specs.Prelude.{Option, Some, None}
 use Rattle.script_rules.specs.Wait.{awaited, check_for, check_wait}
 use Rattle.link_rules.specs.Payload.{payload}
 use Rattle.link_rules.specs.Replies.{on_signaling, on_smp, refuse, exchange, keep_one, confirmed, notice}
@@ -124,7 +124,7 @@ mild-reply (unmoved a b c r) = r
 mild-reply (rested a b r) = r
 
 -- a step that sends a request waits for no notification
-att-unwaited : (s : Step) → att_step s ≡ true → awaited s ≡ awaited-variants.Nothing
+att-unwaited : (s : Step) → att_step s ≡ true → awaited s ≡ None
 att-unwaited (Scan ms) e = refl
 att-unwaited (Connect target interval latency timeout ms) e = refl
 att-unwaited (ExchangeMtu mtu) e = refl
@@ -142,7 +142,7 @@ att-unwaited (CaptureSecrets secrets) e = refl
 unchecked : (h : Held) (at : Micros) → att_step h.state.running.step ≡ true → check_wait h at ≡ h
 unfolding check_wait check_for
 unchecked h at e =
-    ap (λ (x : Awaited). pick h.state.running.active (check_for h at x) h) (att-unwaited h.state.running.step e)
+    ap (λ (x : Option Awaited). pick h.state.running.active (check_for h at x) h) (att-unwaited h.state.running.step e)
     ∙ go h.state.running.active
   where
     go : (b : Bool) → pick b h h ≡ h

@@ -30,7 +30,7 @@ use Rattle.script_rules.specs.Discovery.{characteristic_type, asking, discover_s
 use Rattle.script_rules.specs.declared.Alone.{Alone}
 use Rattle.script_rules.specs.declared.Alone.TheVariants as alone
 use Rattle.script_rules.specs.declared.Awaited.{Awaited}
-use Rattle.script_rules.specs.declared.Awaited.TheVariants as awaited-variants
+use Rattle.std.specs.Prelude.{Option, Some, None}
 use Rattle.script_rules.specs.Wait.{wanted, wait_passes, passed_on, passed, passing, check_one, awaited, check_for, check_wait}
 use Rattle.script_rules.specs.Start.{ends, waits_for, unlinked_step, start_alone, start_unlinked, forgotten, discover_in, subscribe_at, subscribe, commanded, write, read, terminated, asks_to, disconnect, start_linked, barred, start_on, start}
 use Rattle.gatt_characteristics.specs.declared.Characteristic.{Characteristic}
@@ -117,10 +117,10 @@ kept-one h at age (Some x) = let w = wanted h.state at x.value_handle age in go 
     go w true = kept-passing h at w
     go w false = kept-none h
 
-kept_for : (h : Held) (at : Micros) (x : Awaited) → Kept h (check_for h at x)
+kept_for : (h : Held) (at : Micros) (x : Option Awaited) → Kept h (check_for h at x)
 unfolding check_for
-kept_for h at awaited-variants.Nothing = kept-none h
-kept_for h at (awaited-variants.On u age) = kept-one h at age _
+kept_for h at None = kept-none h
+kept_for h at (Some a) = kept-one h at a.age _
 
 pub kept-check : (h : Held) (at : Micros) → Kept h (check_wait h at)
 unfolding check_wait

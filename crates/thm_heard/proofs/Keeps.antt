@@ -36,7 +36,7 @@ use Rattle.script_rules.specs.Discovery.{characteristic_type, asking, discover_s
 use Rattle.script_rules.specs.declared.Alone.{Alone}
 use Rattle.script_rules.specs.declared.Alone.TheVariants as alone
 use Rattle.script_rules.specs.declared.Awaited.{Awaited}
-use Rattle.script_rules.specs.declared.Awaited.TheVariants as awaited-variants
+use Rattle.std.specs.Prelude.{Option, Some, None}
 use Rattle.script_rules.specs.Wait.{wanted, wait_passes, passed_on, passed, passing, check_one, awaited, check_for, check_wait}
 use Rattle.script_rules.specs.Start.{ends, waits_for, unlinked_step, start_alone, start_unlinked, forgotten, discover_in, subscribe_at, subscribe, commanded, write, read, terminated, asks_to, disconnect, start_linked, barred, start_on, start}
 use Rattle.gatt_characteristics.specs.declared.Characteristic.{Characteristic}
@@ -166,10 +166,10 @@ keeps-one h at age (Some x) = let w = wanted h.state at x.value_handle age in go
     go w true = keeps-passing h at w
     go w false = keeps-none h
 
-keeps-for : (h : Held) (at : Micros) (x : Awaited) → Keeps h (check_for h at x)
+keeps-for : (h : Held) (at : Micros) (x : Option Awaited) → Keeps h (check_for h at x)
 unfolding check_for
-keeps-for h at awaited-variants.Nothing = keeps-none h
-keeps-for h at (awaited-variants.On u age) = keeps-one h at age _
+keeps-for h at None = keeps-none h
+keeps-for h at (Some a) = keeps-one h at a.age _
 
 pub keeps-check : (h : Held) (at : Micros) → Keeps h (check_wait h at)
 unfolding check_wait

@@ -36,7 +36,7 @@ use Rattle.script_rules.specs.Discovery.{characteristic_type, asking, discover_s
 use Rattle.script_rules.specs.declared.Alone.{Alone}
 use Rattle.script_rules.specs.declared.Alone.TheVariants as alone
 use Rattle.script_rules.specs.declared.Awaited.{Awaited}
-use Rattle.script_rules.specs.declared.Awaited.TheVariants as awaited-variants
+use Rattle.std.specs.Prelude.{Option, Some, None}
 use Rattle.script_rules.specs.Wait.{wanted, wait_passes, passed_on, passed, passing, check_one, awaited, check_for, check_wait}
 use Rattle.script_rules.specs.Start.{ends, waits_for, unlinked_step, start_alone, start_unlinked, forgotten, discover_in, subscribe_at, subscribe, commanded, write, read, terminated, asks_to, disconnect, start_linked, barred, start_on, start}
 use Rattle.thm_links.specs.Keeps.{kept_notifications, Keeps, starts_quietly}
@@ -195,10 +195,10 @@ hears-one h at age (Some x) = let w = wanted h.state at x.value_handle age in go
     go w true = hears-passing h at w
     go w false = (leaves_none h).hears
 
-hears-for : (h : Held) (at : Micros) (x : Awaited) → Hears h (check_for h at x)
+hears-for : (h : Held) (at : Micros) (x : Option Awaited) → Hears h (check_for h at x)
 unfolding check_for
-hears-for h at awaited-variants.Nothing = (leaves_none h).hears
-hears-for h at (awaited-variants.On u age) = hears-one h at age _
+hears-for h at None = (leaves_none h).hears
+hears-for h at (Some a) = hears-one h at a.age _
 
 hears-check : (h : Held) (at : Micros) → Hears h (check_wait h at)
 unfolding check_wait

@@ -40,7 +40,7 @@ use Rattle.script_rules.specs.Discovery.{last_handle, primary_service, character
 use Rattle.script_rules.specs.declared.Alone.{Alone}
 use Rattle.script_rules.specs.declared.Alone.TheVariants as alone
 use Rattle.script_rules.specs.declared.Awaited.{Awaited}
-use Rattle.script_rules.specs.declared.Awaited.TheVariants as awaited-variants
+use Rattle.std.specs.Prelude.{Option, Some, None}
 use Rattle.script_rules.specs.Wait.{wanted, skipped, wait_passes, passed_on, passed, passing, check_one, awaited, check_for, check_wait}
 use Rattle.script_rules.specs.Start.{ends, waits_for, unlinked_step, start_alone, start_unlinked, forgotten, discover_in, configuration, subscribe_at, subscribe, commanded, write, read}
 use Rattle.script_rules.specs.Start.{terminated, asks_to, disconnect, named, start_linked, barred, start_on, start}
@@ -100,12 +100,12 @@ module _ (at : Micros) where
           ap (λ (l : List Notification). passes w (drop (skipped c) (heard h.store l)) (bytes h.store running_at c.running.len))
           (sym (cut_twice c.notifications.count c.notifications.kept))
 
-  check-for-blind : (h : Held) (a : Awaited) → cut (check_for h at a) ≡ cut (check_for (cut h) at a)
+  check-for-blind : (h : Held) (a : Option Awaited) → cut (check_for h at a) ≡ cut (check_for (cut h) at a)
   unfolding check_for
-  check-for-blind h awaited-variants.Nothing = held-twice h
-  check-for-blind h (awaited-variants.On u age) =
-      check-one-blind h age (characteristic.characteristic_with u (characteristic.known h.state.characteristics))
-      ∙ by-characteristic (λ x. cut (check_one (cut h) at age x)) h.state u
+  check-for-blind h None = held-twice h
+  check-for-blind h (Some a) =
+      check-one-blind h a.age (characteristic.characteristic_with a.characteristic (characteristic.known h.state.characteristics))
+      ∙ by-characteristic (λ x. cut (check_one (cut h) at a.age x)) h.state a.characteristic
 
   pub check-blind : (h : Held) → cut (check_wait h at) ≡ cut (check_wait (cut h) at)
   unfolding check_wait

@@ -29,7 +29,7 @@ use Rattle.script_rules.specs.Discovery.{characteristic_type, asking, discover_s
 use Rattle.script_rules.specs.declared.Alone.{Alone}
 use Rattle.script_rules.specs.declared.Alone.TheVariants as alone
 use Rattle.script_rules.specs.declared.Awaited.{Awaited}
-use Rattle.script_rules.specs.declared.Awaited.TheVariants as awaited-variants
+use Rattle.std.specs.Prelude.{Option, Some, None}
 use Rattle.script_rules.specs.Wait.{wanted, wait_passes, passed_on, passed, passing, check_one, awaited, check_for, check_wait}
 use Rattle.script_rules.specs.Start.{ends, waits_for, unlinked_step, start_alone, start_unlinked, forgotten, discover_in, subscribe_at, subscribe, commanded, write, read, terminated, asks_to, disconnect, start_linked, barred, start_on, start}
 use Rattle.script_rules.specs.Send.{send}
@@ -89,10 +89,10 @@ asks-one w at age (Some x) = let y = wanted w.held.state at x.value_handle age i
     go y true = asks-passing w at y
     go y false = asks_none w
 
-asks-for : (w : World) (at : Micros) (x : Awaited) → Asks w (on_held w (check_for w.held at x))
+asks-for : (w : World) (at : Micros) (x : Option Awaited) → Asks w (on_held w (check_for w.held at x))
 unfolding check_for
-asks-for w at awaited-variants.Nothing = asks_none w
-asks-for w at (awaited-variants.On u age) = asks-one w at age _
+asks-for w at None = asks_none w
+asks-for w at (Some a) = asks-one w at a.age _
 
 pub asks-check : (w : World) (at : Micros) → Asks w (on_held w (check_wait w.held at))
 unfolding check_wait

@@ -19,7 +19,7 @@ use Rattle.state.specs.declared.Address.{Address}
 use Rattle.state.specs.declared.Step.{Step}
 use Rattle.state.specs.declared.StepStatus.{StepStatus}
 use Rattle.state.specs.declared.StepStatus.TheVariants.{Ok, Timeout, Disconnected}
-use Rattle.state.specs.declared.LinkRequest.TheVariants.{Nothing}
+use Rattle.std.specs.Prelude.{None}
 use Rattle.state_kinds.specs.Kinds.{is_disconnect}
 use Rattle.state_rules.specs.Refusals.{accepted, keys_full}
 use Rattle.state_rules.specs.Fit.{most_links}
@@ -210,7 +210,7 @@ still-emptied h s =
 
 module _ (h : Held) (out : List ℕ) (at : Micros) (start : Bool) (piece : List ℕ) (p : PassedFragment h.state (length h.store) (length out) at start (length piece)) where
   abbrev w : World
-  w = record { held = h; told = record { sent = record { frames = 0; bytes = 0; request = Nothing }; out = out } }
+  w = record { held = h; told = record { sent = record { frames = 0; bytes = 0; request = None }; out = out } }
 
   abbrev v : World
   v = on_held w (gathered h start piece)

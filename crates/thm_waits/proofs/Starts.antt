@@ -30,7 +30,7 @@ use Rattle.script_rules.specs.Discovery.{characteristic_type, asking, discover_s
 use Rattle.script_rules.specs.declared.Alone.{Alone}
 use Rattle.script_rules.specs.declared.Alone.TheVariants as alone
 use Rattle.script_rules.specs.declared.Awaited.{Awaited}
-use Rattle.script_rules.specs.declared.Awaited.TheVariants as awaited-variants
+use Rattle.std.specs.Prelude.{Option, Some, None}
 use Rattle.script_rules.specs.Wait.{wanted, wait_passes, passing, check_one, awaited, check_for, check_wait}
 use Rattle.script_rules.specs.Start.{ends, waits_for, unlinked_step, start_alone, start_unlinked, forgotten, discover_in, subscribe_at, subscribe, commanded, write, read, terminated, asks_to, disconnect, start_linked, barred, start_on, start}
 use Rattle.thm_waits.specs.Waits.{is_wait_notification}
@@ -212,9 +212,9 @@ kind (CaptureSecrets secrets) = plain refl
 -- the check of another step has nothing to look at
 pub unchecked : (h : Held) (at : Micros) → Plain h → check_wait h at ≡ h
 unfolding check_wait check_for
-unchecked h at p = ap (λ (a : Awaited). pick h.state.running.active (check_for h at a) h) (none h.state.running.step p) ∙ go h.state.running.active
+unchecked h at p = ap (λ (a : Option Awaited). pick h.state.running.active (check_for h at a) h) (none h.state.running.step p) ∙ go h.state.running.active
   where
-    none : (s : Step) → is_wait_notification s ≡ false → awaited s ≡ awaited-variants.Nothing
+    none : (s : Step) → is_wait_notification s ≡ false → awaited s ≡ None
     none (Scan ms) e = refl
     none (Connect target interval latency timeout ms) e = refl
     none (ExchangeMtu mtu) e = refl

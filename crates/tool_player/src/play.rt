@@ -1,6 +1,7 @@
 // One record: its call is made on the port and answered.
 use crate::{fresh, tell};
 use central_answers::{Answer, UNSENT};
+use central_answers::Answer;
 use state::{Options, Sent};
 use state_core::Core;
 use state_refusals::Refusal;

@@ -314,18 +314,18 @@ fn taken(to: &mut [u8], at: usize) -> usize {
     byte(to, at, 0)
 }
 
-fn request(to: &mut [u8], at: usize, r: LinkRequest) -> usize {
+fn request(to: &mut [u8], at: usize, r: Option<LinkRequest>) -> usize {
     match r {
-        LinkRequest::Nothing => none(to, at),
-        LinkRequest::Update {
+        None => none(to, at),
+        Some(LinkRequest::Update {
             interval,
             latency,
             timeout,
-        } => {
+        }) => {
             let n = line::word(to, at, b"update");
             parameters(to, n, interval, latency, timeout)
         }
-        LinkRequest::Terminate { reason } => {
+        Some(LinkRequest::Terminate { reason }) => {
             let n = line::word(to, at, b"terminate");
             byte(to, n, reason)
         }

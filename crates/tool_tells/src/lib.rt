@@ -99,15 +99,15 @@ fn terminate(reason: u8) {
     tool_say::line(b"");
 }
 
-fn request(r: LinkRequest) {
+fn request(r: Option<LinkRequest>) {
     match r {
-        LinkRequest::Nothing => (),
-        LinkRequest::Update {
+        None => (),
+        Some(LinkRequest::Update {
             interval,
             latency,
             timeout,
-        } => update(interval, latency, timeout),
-        LinkRequest::Terminate { reason } => terminate(reason),
+        }) => update(interval, latency, timeout),
+        Some(LinkRequest::Terminate { reason }) => terminate(reason),
     }
 }
 

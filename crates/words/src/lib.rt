@@ -1,7 +1,8 @@
 // The tables of a state in words: how many there are, and where each record's words stand. A record has one word in each of its rows.
 #![tactic(auto)]
 
-ghost use Rattle.std.specs.Prelude.{◌≡◌, ◌+◌, ◌<◌, length};
+ghost use Rattle.std.specs.Prelude.{◌≡◌, ◌+◌, ◌<◌, ◌≤◌, length, take, drop, leb};
+ghost use Rattle.lists.specs.Queue.{all};
 ghost use Rattle.words.specs.Rows.{Lowered};
 ghost use Rattle.words.specs.Tables.{tables_size};
 
@@ -81,17 +82,29 @@ pub fn size(tables: &[u64]) -> usize
     tables.len()
 }
 
+// The n words from at on.
+pub fn row(tables: &[u64; 1152], at: usize, n: usize) -> &[u64]
+    requires { at + n ≤ tables_size }
+    ensures { result.now ≡ take n (drop at tables.now) }
+{
+    &tables[at..at + n]
+}
+
+// Whether no word is above the most. It looks at each, so that no branch depends on one.
+pub fn all_at_most(words: &[u64], most: u64) -> bool
+    ensures { result ≡ all (λ x. leb x most) words.now }
+{
+    let mut ok = true;
+    for word in words {
+        ok &= *word <= most;
+    }
+    ok
+}
+
 // Each of the n words from at on gets what the word after it has: the first goes, and the others move down by one.
 pub fn lower(tables: &mut [u64; 1152], at: usize, n: usize)
     requires { at + n < tables_size }
     ensures { Lowered tables.old tables.new at n }
 {
-    let all = size(tables);
-    let mut i = 0;
-    while i < n {
-        let p = at + i;
-        let x = tables[p + 1];
-        tables[p] = x;
-        i += 1;
-    }
+    tables.copy_within(at + 1..at + 1 + n, at);
 }

@@ -1,26 +1,24 @@
 -- What a step's first word tells of whether a batch accepts it, and what a loop over first words tells of all.
-use Prim.Native.Nat.{ℕ, zero, suc, ◌+◌, ◌/◌, ◌%◌, ◌≤◌, ◌<◌}
+use Prim.Native.Nat.{ℕ, zero, suc, ◌+◌, ◌-◌, ◌/◌, ◌%◌, ◌≤◌, ◌<◌}
 use mathlib.Core.Path.{◌≡◌, refl, sym, ap, ◌∙◌}
 use mathlib.Core.Bool.{Bool, true, false, ◌&&◌, ◌||◌}
 use mathlib.Core.List.{List, [], ◌∷◌}
-use native.Mathlib.Numerals.{add-one}
 use native.Mathlib.Omega.{arith}
-use lib.ListN.{take, get_or}
-use lib.Seq.{take-suc}
-use lib.Dec.{eqb, leb, ltb}
-use borrow.Author.Tests.{le-leb, ltb-true, ne_eqb}
-use Rattle.bytes_base.proofs.TestLaws.{both}
+use lib.ListN.{length, take, drop, get_or}
+use Rattle.std.proofs.Common.{◌↔◌, IsTrue, EachIndex}
+use lib.Dec.{eqb, leb}
+use borrow.Author.Tests.{le-leb, leb-true, ne_eqb}
 use Rattle.state_places.specs.Sizes.{value_size}
 use Rattle.lists.specs.Queue.{all}
-use Rattle.lists.proofs.ScanLaws.{all_append, all_cons}
+use Rattle.lists.proofs.ScanLaws.{all_head, all_tail, all_cons}
 use Rattle.state_rules.specs.Steps.{implies, most_mtu, step_fits}
 use Rattle.state_rules.specs.Fit.{steps_fit}
 use Rattle.state.specs.Fresh.{no_queued}
 use Rattle.state.specs.declared.Queued.{Queued}
 use Rattle.words.specs.declared.Flat.{Flat}
-use Rattle.words.specs.Words.{two48, step_of, len_of, flat_of}
+use Rattle.words.specs.Words.{two48, step_of, len_of, queued_of, flat_of}
 use Rattle.words.specs.Tables.{word, steps_in}
-use Rattle.words.proofs.RowLaws.{step-at, length-steps}
+use Rattle.words.proofs.SearchLaws.{all-row, all-is}
 use Rattle.words_step.specs.Fits.{word_fits}
 
 unfoldable flat_fits : Flat → Bool
@@ -60,11 +58,11 @@ kind_fits (suc (suc (suc (suc (suc (suc (suc (suc (suc (suc (suc (suc n)))))))))
 abbrev pub fine : Queued → Bool
 fine q = step_fits q.step q.len
 
-pub word_fits_lem : (w : List ℕ) (i : ℕ) (r : Bool) → i < 64 → r ≡ word_fits (word w 0 i) → r ≡ fine (get_or (steps_in w) i no_queued)
+word_fits_flat : (w : List ℕ) (i : ℕ) → word_fits (word w 0 i) ≡ fine (queued_of (flat_of (word w 0 i) (word w 64 i) (word w 128 i) (word w 192 i)))
 unfolding flat_fits
-word_fits_lem w i r h e =
+word_fits_flat w i =
     let f : Flat = flat_of (word w 0 i) (word w 64 i) (word w 128 i) (word w 192 i) in
-    rw (step-at w i h) (e ∙ sym (kind_fits f.kind f refl))
+    sym (kind_fits f.kind f refl)
 
 -- ---- the quick test
 
@@ -76,8 +74,9 @@ implied false = refl
 abbrev short_below : ℕ
 short_below = 68961369294110720
 
-short-fits : (a : ℕ) → a < short_below → word_fits a ≡ true
-short-fits a h =
+short-fits : (a : ℕ) → leb a (short_below - 1) ≡ true → word_fits a ≡ true
+short-fits a e =
+    let h : a ≤ short_below - 1 = leb-true a (short_below - 1) e in
     let q : a / two48 ≤ 244 = omega arith in
     rw (
       le-leb (a / two48 % 256) value_size (omega arith),
@@ -86,18 +85,23 @@ short-fits a h =
       implied (eqb (a % 256) 2),
     )
 
--- a loop that gathers a test: none yet, and one more
-pub short_none : steps_fit [] ≡ true
+all-short : (l : List ℕ) → all (λ x. leb x (short_below - 1)) l ≡ true → all word_fits l ≡ true
 unfolding all
-short_none = refl
+all-short [] e = refl
+all-short (a ∷ l) e =
+    all_cons word_fits a l (short-fits a (all_head (λ x. leb x (short_below - 1)) a l e)) (all-short l (all_tail (λ x. leb x (short_below - 1)) a l e))
 
-pub short_on : (w : List ℕ) (i : ℕ) (ok : Bool) → i < 64 → (ok ≡ true → steps_fit (take i (steps_in w)) ≡ true)
-    → (ok && ltb (word w 0 i) short_below) ≡ true → steps_fit (take (i + 1) (steps_in w)) ≡ true
-unfolding all
-short_on w i ok h k e =
-    let t : (ok ≡ true) × (ltb (word w 0 i) short_below ≡ true) = both ok (ltb (word w 0 i) short_below) e in
-    let x : Queued = get_or (steps_in w) i no_queued in
-    let f : fine x ≡ true = sym (word_fits_lem w i true h (sym (short-fits (word w 0 i) (ltb-true (word w 0 i) short_below t.1)))) in
-    ap (λ (m : ℕ). steps_fit (take m (steps_in w))) (add-one i)
-    ∙ ap steps_fit (take-suc (steps_in w) i no_queued (omega (arith, length-steps w)))
-    ∙ all_append fine (take i (steps_in w)) (x ∷ []) (k t.0) (all_cons fine x [] f refl)
+-- the first words of the first n steps
+module _ (w words : List ℕ) (n : ℕ) (few : n ≤ 64) (long : length w ≡ 1152) (e : words ≡ take n (drop 0 w)) where
+  by-words : all word_fits words ≡ steps_fit (take n (steps_in w))
+  unfolding steps_in
+  by-words =
+      rw e
+      (all-row fine word_fits w 64 n 0 (λ i. queued_of (flat_of (word w 0 i) (word w 64 i) (word w 128 i) (word w 192 i))) no_queued few (omega arith)
+      (λ k h. sym (word_fits_flat w k)))
+
+  pub fit-short : all (λ x. leb x (short_below - 1)) words ≡ true → true ≡ steps_fit (take n (steps_in w))
+  fit-short h = sym (all-short words h) ∙ by-words
+
+  pub fit-each : (r : Bool) → (IsTrue r ↔ EachIndex words (λ k. word_fits (get_or words k 0) ≡ true)) → r ≡ steps_fit (take n (steps_in w))
+  fit-each r h = all-is word_fits words r h ∙ by-words

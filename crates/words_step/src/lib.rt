@@ -1,7 +1,7 @@
 // Waiting steps in the lent words: a step and its value's length in one word of each of four rows.
 #![tactic(auto)]
 
-ghost use Rattle.std.specs.Prelude.{◌≡◌, true, ◌/◌, ◌%◌, ◌≤◌, ◌<◌, take, get_or, set};
+ghost use Rattle.std.specs.Prelude.{◌≡◌, ◌↔◌, IsTrue, EachIndex, slice_index, true, ◌/◌, ◌%◌, ◌≤◌, ◌<◌, take, get_or, set};
 ghost use Rattle.bytes_base.specs.Choice.{pick};
 ghost use Rattle.state_kinds.specs.Kinds.{carries};
 ghost use Rattle.state_places.specs.Sizes.{most_steps};
@@ -435,34 +435,11 @@ fn word_fits(a: u64) -> bool
         & (!(kind == state_kinds::EXCHANGE_MTU) | (size <= state_rules::MAX_MTU))
 }
 
-fn each_fits(tables: &[u64; 1152], count: usize) -> bool
-    requires { count ≤ most_steps }
-    ensures { result ≡ steps_fit (take count (steps_in tables.now)) }
+// Whether each of these first words is of a step that a batch accepts.
+fn each_fits(words: &[u64]) -> bool
+    ensures { IsTrue result ↔ EachIndex words.now (λ k. word_fits (slice_index words.now k) ≡ true) }
 {
-    let mut i = 0;
-    while i < count {
-        let a = tables[words::STEP + i];
-        if !word_fits(a) {
-            return false;
-        }
-        i += 1;
-    }
-    true
-}
-
-// Whether the sizes alone say so of every step, with no look at its kind.
-fn all_short(tables: &[u64; 1152], count: usize) -> bool
-    requires { count ≤ most_steps }
-    ensures { result ≡ true → steps_fit (take count (steps_in tables.now)) ≡ true }
-{
-    let mut ok = true;
-    let mut i = 0;
-    while i < count {
-        let a = tables[words::STEP + i];
-        ok = ok & (a < SHORT_BELOW);
-        i += 1;
-    }
-    ok
+    words.iter().all(|word| word_fits(*word))
 }
 
 // Whether each of the first count steps is as a batch accepts it.
@@ -470,8 +447,7 @@ pub fn steps_fit(tables: &[u64; 1152], count: usize) -> bool
     requires { count ≤ most_steps }
     ensures { result ≡ steps_fit (take count (steps_in tables.now)) }
 {
-    if all_short(tables, count) {
-        return true;
-    }
-    each_fits(tables, count)
+    let words = words::row(tables, words::STEP, count);
+    // The sizes alone may say so of every step, with no look at its kind.
+    words::all_at_most(words, SHORT_BELOW - 1) || each_fits(words)
 }

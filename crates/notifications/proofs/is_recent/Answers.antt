@@ -1,4 +1,0 @@
-use Rattle.notifications.proofs.is_recent.Goals as goal
-
-pub returns : goal.returns
-returns c = rw c.deadline-end.ensures

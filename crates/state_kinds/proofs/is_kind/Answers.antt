@@ -1,4 +1,0 @@
-use Rattle.state_kinds.proofs.is_kind.Goals as goal
-
-pub returns : goal.returns
-returns c = rw c.kind_of.ensures
