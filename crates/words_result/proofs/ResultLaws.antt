@@ -1,15 +1,14 @@
 -- A result put into words is read again; what each return and the loop over the table ask.
 use Prim.Native.Nat.{ℕ, ◌+◌, ◌*◌, ◌/◌, ◌%◌, ◌<◌, ◌≤◌}
 use mathlib.Core.Path.{◌≡◌, refl, sym, ap, ◌∙◌}
-use mathlib.Core.Bool.{Bool, true, false, ◌&&◌, and_assoc}
+use mathlib.Core.Bool.{Bool, true, false}
 use mathlib.Core.List.{List}
 use native.Mathlib.Omega.{arith}
 use lib.ListN.{length, take, drop, set, get_or, length-set}
 use lib.Seq.{get_or-set_same, get_or-set_other}
-use lib.Dec.{leb, ltb}
-use borrow.Author.Tests.{le-leb, lt-leb, ltb-true, ltb-false}
+use lib.Dec.{leb}
+use borrow.Author.Tests.{le-leb, lt-leb, leb-true, leb-false}
 use Rattle.lists.specs.Queue.{all, shifted}
-use Rattle.lists.proofs.ScanLaws.{rest-cons, rest-nil}
 use Rattle.state.specs.Fresh.{no_result}
 use Rattle.state.specs.declared.Results.{Results}
 use Rattle.state.specs.declared.StepResult.{StepResult}
@@ -23,6 +22,7 @@ use Rattle.words.specs.Words.{status_of, result_of}
 use Rattle.words.specs.Tables.{Tables, word, results_in, tables, with_results}
 use Rattle.words.proofs.TableLaws.{table-set, table-lowered}
 use Rattle.words.proofs.RowLaws as row
+use Rattle.words.proofs.SearchLaws.{all-row}
 use Rattle.words_result.specs.Results.{results_as}
 
 -- ---- one result
@@ -160,29 +160,17 @@ push-over w v u n r k h e f =
 
 -- ---- lengths
 
-below : (x : ℕ) → ltb x 17798225727368200192 ≡ leb (x / 72057594037927936) 246
-below x = go (ltb x 17798225727368200192) refl
+below : (x : ℕ) → leb x 17798225727368200191 ≡ leb (x / 72057594037927936) 246
+below x = go (leb x 17798225727368200191) refl
   where
-    go : (b : Bool) → ltb x 17798225727368200192 ≡ b → b ≡ leb (x / 72057594037927936) 246
-    go true e = sym (le-leb (x / 72057594037927936) 246 (omega (arith, ltb-true x 17798225727368200192 e)))
-    go false e = sym (lt-leb (x / 72057594037927936) 246 (omega (arith, ltb-false x 17798225727368200192 e)))
+    go : (b : Bool) → leb x 17798225727368200191 ≡ b → b ≡ leb (x / 72057594037927936) 246
+    go true e = sym (le-leb (x / 72057594037927936) 246 (omega (arith, leb-true x 17798225727368200191 e)))
+    go false e = sym (lt-leb (x / 72057594037927936) 246 (omega (arith, leb-false x 17798225727368200191 e)))
 
-and-unit : (a : Bool) → (a && true) ≡ a
-and-unit true = refl
-and-unit false = refl
-
-pub fit_on : (w : List ℕ) (n i : ℕ) (ok : Bool) → n ≤ 64 → i < n
-    → (ok && results_fit (drop i (take n (results_in w)))) ≡ ((ok && ltb (get_or w (320 + i) 0) 17798225727368200192) && results_fit (drop (i + 1) (take n (results_in w))))
-unfolding all result_of
-fit_on w n i ok k h =
-    let rest : Bool = results_fit (drop (i + 1) (take n (results_in w))) in
-    let g : length (results_in w) ≡ 64 = row.length-results w in
-    ap (λ (t : List StepResult). ok && results_fit t) (rest-cons (results_in w) n i no_result h (omega arith))
-    ∙ sym (and_assoc ok (leb (get_or (results_in w) i no_result).len 246) rest)
-    ∙ ap (λ (b : Bool). (ok && b) && rest) (ap (λ (x : StepResult). leb x.len 246) (row.result-at w i (omega arith)) ∙ sym (below (get_or w (320 + i) 0)))
-
-pub fit-end : (w : List ℕ) (n i : ℕ) (ok : Bool) → n ≤ 64 → n ≤ i → (ok && results_fit (drop i (take n (results_in w)))) ≡ ok
-unfolding all
-fit-end w n i ok k h =
-    let g : length (results_in w) ≡ 64 = row.length-results w in
-    ap (λ (t : List StepResult). ok && results_fit t) (rest-nil (results_in w) n i h (omega arith)) ∙ and-unit ok
+pub fit-law : (w words : List ℕ) (n : ℕ) (r : Bool) → n ≤ 64 → length w ≡ 1152 → words ≡ take n (drop 320 w)
+    → r ≡ all (λ x. leb x 17798225727368200191) words → r ≡ results_fit (take n (results_in w))
+unfolding results_in result_of
+fit-law w words n r few long e h =
+    h
+    ∙ ap (all (λ x. leb x 17798225727368200191)) e
+    ∙ all-row (λ (x : StepResult). leb x.len 246) (λ x. leb x 17798225727368200191) w 64 n 320 (λ i. result_of (word w 256 i) (word w 320 i) (word w 1088 i)) no_result few (omega arith) (λ k b. sym (below (word w 320 k)))

@@ -33,16 +33,8 @@ const LAST: usize = state_places::MAX_RESULTS - 1;
 
 // ---- a result to its word
 
-// An error's status: the code above the number of its kind.
-fn error_bits(code: u8) -> u64
-    ensures value { result ≡ 4 + 256 * code }
-    ensures small { result < 65536 }
-{
-    let wide = code as u64;
-    4 + BYTE * wide
-}
-
 // A status in 16 bits: its kind in the low 8, its code in the others.
+#[tactic(auto, unfolding(words::specs::Words::status_of))]
 fn status_bits(s: StepStatus) -> u64
     ensures result_value { status_of (result % 256) (result / 256) ≡ s }
     ensures small { result < 65536 }
@@ -52,7 +44,7 @@ fn status_bits(s: StepStatus) -> u64
         StepStatus::Timeout => 1,
         StepStatus::NotConnected => 2,
         StepStatus::NotFound => 3,
-        StepStatus::AttError(e) => error_bits(e),
+        StepStatus::AttError(code) => 4 + BYTE * u64::from(code),
         StepStatus::TooLong => 5,
         StepStatus::Disconnected => 6,
         StepStatus::TableFull => 7,
@@ -64,15 +56,13 @@ fn status_bits(s: StepStatus) -> u64
 fn word_of(r: StepResult) -> u64
     ensures { result_of r.at.0 result r.heard ≡ r }
 {
-    let index = r.index as u64;
-    let status = r.status;
-    let bits = status_bits(status);
-    let len = r.len as u64;
-    index + STATUS * bits + LENGTH * len
+    let bits = status_bits(r.status);
+    u64::from(r.index) + STATUS * bits + LENGTH * u64::from(r.len)
 }
 
 // ---- a result from its word
 
+#[tactic(auto, unfolding(words::specs::Words::status_of))]
 fn status_of(kind: u8, code: u8) -> StepStatus
     ensures { result ≡ status_of kind code }
 {
@@ -89,13 +79,7 @@ fn status_of(kind: u8, code: u8) -> StepStatus
     }
 }
 
-// The 8 bits at the top.
-fn length_of(word: u64) -> u8
-    ensures { result ≡ word / two56 }
-{
-    (word / LENGTH) as u8
-}
-
+#[tactic(auto, unfolding(words::specs::Words::result_of))]
 fn result_of(at: Micros, word: u64, heard: u64) -> StepResult
     ensures { result ≡ result_of at.0 word heard }
 {
@@ -103,7 +87,7 @@ fn result_of(at: Micros, word: u64, heard: u64) -> StepResult
     let kind = (word / STATUS % BYTE) as u8;
     let code = (word / CODE % BYTE) as u8;
     let status = status_of(kind, code);
-    let len = length_of(word);
+    let len = (word / LENGTH) as u8;
     StepResult {
         index,
         at,
@@ -131,15 +115,9 @@ fn put_result(tables: &mut [u64; 1152], i: usize, r: StepResult)
     requires { i < most_results }
     ensures { all.tables tables.new ≡ all.with_results (all.tables tables.old) (set (results_in tables.old) i r) }
 {
-    let all = words::size(tables);
-    let at = r.at;
-    let word = word_of(r);
-    let p = words::RESULT_AT + i;
-    let q = words::RESULT + i;
-    let h = words::RESULT_HEARD + i;
-    tables[p] = at.0;
-    tables[q] = word;
-    tables[h] = r.heard;
+    tables[words::RESULT_AT + i] = r.at.0;
+    tables[words::RESULT + i] = word_of(r);
+    tables[words::RESULT_HEARD + i] = r.heard;
 }
 
 // The oldest result goes, the others move down by one.
@@ -159,8 +137,7 @@ pub fn push_result(tables: &mut [u64; 1152], count: usize, r: StepResult) -> usi
 {
     if count < state_places::MAX_RESULTS {
         put_result(tables, count, r);
-        let more = count + 1;
-        return more;
+        return count + 1;
     }
     shift_results(tables);
     put_result(tables, LAST, r);
@@ -172,12 +149,5 @@ pub fn results_fit(tables: &[u64; 1152], count: usize) -> bool
     requires { count ≤ most_results }
     ensures { result ≡ results_fit (take count (results_in tables.now)) }
 {
-    let mut ok = true;
-    let mut i = 0;
-    while i < count {
-        let p = words::RESULT + i;
-        ok = ok & (tables[p] < LENGTH_END);
-        i += 1;
-    }
-    ok
+    words::all_at_most(words::row(tables, words::RESULT, count), LENGTH_END - 1)
 }
