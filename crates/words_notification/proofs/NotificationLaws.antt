@@ -1,18 +1,18 @@
 -- A notification put into words is read again, and the other tables stay; what the loops over the table ask.
-use Prim.Native.Nat.{ℕ, ◌+◌, ◌*◌, ◌/◌, ◌%◌, ◌<◌, ◌≤◌}
+use Prim.Native.Nat.{ℕ, ◌+◌, ◌-◌, ◌*◌, ◌/◌, ◌%◌, ◌<◌, ◌≤◌}
 use mathlib.Core.Path.{◌≡◌, refl, sym, ap, ◌∙◌}
-use mathlib.Core.Bool.{Bool, true, false, ◌&&◌, and_assoc}
+use mathlib.Core.Bool.{Bool, true, false}
 use mathlib.Core.List.{List}
 use native.Mathlib.Omega.{arith}
 use lib.ListN.{length, take, drop, get_or, set, length-set}
 use lib.Seq.{get_or-set_same, get_or-set_other}
-use lib.Dec.{eqb, leb, ltb}
-use borrow.Author.Tests.{le-leb, lt-leb, ltb-true, ltb-false}
+use lib.Dec.{eqb, leb}
+use mir.Val.{bool_byte}
+use borrow.Author.Tests.{le-leb, lt-leb, leb-true, leb-false}
 use Rattle.bytes_base.specs.Choice.{pick}
 use Rattle.state_places.specs.Sizes.{value_size}
 use Rattle.lists.specs.Queue.{all, shifted}
 use Rattle.lists.specs.Blocks.{fitting}
-use Rattle.lists.proofs.ScanLaws.{rest-cons, rest-nil}
 use Rattle.state.specs.Fresh.{no_notification}
 use Rattle.notifications.specs.declared.Notification.{Notification}
 use Rattle.notifications.specs.declared.Notifications.{Notifications}
@@ -23,6 +23,7 @@ use Rattle.words.specs.Tables.{Tables, word, tables, with_notifications, notific
 use Rattle.words.specs.Rows.{Same, Lowered}
 use Rattle.words.proofs.TableLaws.{table-set, table-lowered}
 use Rattle.words.proofs.RowLaws.{steps-same, results_same, services-same, characteristics-same, who-same, heard-same, keys-same, length-notifications, notification-at}
+use Rattle.words.proofs.SearchLaws.{all-row}
 use Rattle.words_notification.specs.Kept.{kept_in}
 
 -- 245 * 2^56
@@ -30,6 +31,15 @@ abbrev pub length_end : ℕ
 length_end = 17654110539292344320
 
 -- ---- one notification
+
+-- a flag as the library numbers it
+pub flag-number : (b : Bool) → bool_byte b ≡ pick b 1 0
+flag-number true = refl
+flag-number false = refl
+
+pub flag-small : (b : Bool) → bool_byte b < 2
+flag-small true = omega arith
+flag-small false = omega arith
 
 one_bit : (b : Bool) → eqb (pick b 1 0) 1 ≡ b
 one_bit true = refl
@@ -174,50 +184,28 @@ keep-full w v u n x h e f =
 
 -- ---- a field of each of the first n is small enough
 
-and-unit : (a : Bool) → (a && true) ≡ a
-and-unit true = refl
-and-unit false = refl
+-- words are the n words from r on, each of which tells whether a field of the notification in its place is small enough
+module _ (w words : List ℕ) (n r most bound : ℕ) (few : n ≤ 32) (long : length w ≡ 1152) (room : r ≤ 1056) (e : words ≡ take n (drop r w)) where
+  fits-law : (f : Notification → ℕ) (result : Bool) → ((k : ℕ) → leb (f (placed w k)) bound ≡ leb (word w r k) most)
+      → result ≡ all (λ x. leb x most) words → result ≡ fitting f bound (take n (notifications_in w))
+  unfolding notifications_in
+  fits-law f result same h =
+      h
+      ∙ ap (all (λ x. leb x most)) e
+      ∙ all-row (λ (x : Notification). leb (f x) bound) (λ x. leb x most) w 32 n r (placed w) no_notification few (omega arith) (λ k b. same k)
 
--- one more place, of which b tells it, and the end
-module _ (f : Notification → ℕ) (most : ℕ) (w : List ℕ) (n i : ℕ) (ok : Bool) (few : n ≤ 32) where
-  abbrev rest : ℕ → Bool
-  rest j = fitting f most (drop j (take n (notifications_in w)))
-
-  field-on : (b : Bool) → i < n → b ≡ leb (f (placed w i)) most → (ok && rest i) ≡ ((ok && b) && rest (i + 1))
-  unfolding all
-  field-on b h e =
-      let g : length (notifications_in w) ≡ 32 = length-notifications w in
-      ap (λ (t : List Notification). ok && fitting f most t) (rest-cons (notifications_in w) n i no_notification h (omega arith))
-      ∙ sym (and_assoc ok (leb (f (get_or (notifications_in w) i no_notification)) most) (rest (i + 1)))
-      ∙ ap (λ (t : Bool). (ok && t) && rest (i + 1)) (ap (λ (x : Notification). leb (f x) most) (notification-at w i (omega arith)) ∙ sym e)
-
-  field_end : n ≤ i → (ok && rest i) ≡ ok
-  unfolding all
-  field_end h =
-      let g : length (notifications_in w) ≡ 32 = length-notifications w in
-      ap (λ (t : List Notification). ok && fitting f most t) (rest-nil (notifications_in w) n i h (omega arith)) ∙ and-unit ok
-
-below : (x : ℕ) → ltb x length_end ≡ leb (x / two56) value_size
-below x = go (ltb x length_end) refl
+below : (x : ℕ) → leb (x / two56) value_size ≡ leb x (length_end - 1)
+below x = go (leb x (length_end - 1)) refl
   where
-    go : (b : Bool) → ltb x length_end ≡ b → b ≡ leb (x / two56) value_size
-    go true e = sym (le-leb (x / two56) value_size (omega (arith, ltb-true x length_end e)))
-    go false e = sym (lt-leb (x / two56) value_size (omega (arith, ltb-false x length_end e)))
+    go : (b : Bool) → leb x (length_end - 1) ≡ b → leb (x / two56) value_size ≡ b
+    go true e = le-leb (x / two56) value_size (omega (arith, leb-true x (length_end - 1) e))
+    go false e = lt-leb (x / two56) value_size (omega (arith, leb-false x (length_end - 1) e))
 
-module _ (w : List ℕ) (n i : ℕ) (ok : Bool) (few : n ≤ 32) where
-  pub value_on : i < n
-      → (ok && values_fit (drop i (take n (notifications_in w)))) ≡ ((ok && ltb (get_or w (704 + i) 0) length_end) && values_fit (drop (i + 1) (take n (notifications_in w))))
+module _ (w words : List ℕ) (n : ℕ) (result : Bool) (few : n ≤ 32) (long : length w ≡ 1152) where
+  pub values-law : words ≡ take n (drop 704 w) → result ≡ all (λ x. leb x (length_end - 1)) words → result ≡ values_fit (take n (notifications_in w))
   unfolding notification_of
-  value_on h = field-on (λ (x : Notification). x.len) value_size w n i ok few (ltb (get_or w (704 + i) 0) length_end) h (below (get_or w (704 + i) 0))
+  values-law e h = fits-law w words n 704 (length_end - 1) value_size few long (omega arith) e (λ x. x.len) result (λ k. below (word w 704 k)) h
 
-  pub value-end : n ≤ i → (ok && values_fit (drop i (take n (notifications_in w)))) ≡ ok
-  value-end h = field_end (λ (x : Notification). x.len) value_size w n i ok few h
-
-  module _ (links : ℕ) where
-    pub link_on : i < n
-        → (ok && links_fit links (drop i (take n (notifications_in w)))) ≡ ((ok && leb (get_or w (1056 + i) 0) links) && links_fit links (drop (i + 1) (take n (notifications_in w))))
-    unfolding notification_of
-    link_on h = field-on (λ (x : Notification). x.link) links w n i ok few (leb (get_or w (1056 + i) 0) links) h refl
-
-    pub link-end : n ≤ i → (ok && links_fit links (drop i (take n (notifications_in w)))) ≡ ok
-    link-end h = field_end (λ (x : Notification). x.link) links w n i ok few h
+  pub links-law : (links : ℕ) → words ≡ take n (drop 1056 w) → result ≡ all (λ x. leb x links) words → result ≡ links_fit links (take n (notifications_in w))
+  unfolding notification_of
+  links-law links e h = fits-law w words n 1056 links links few long (omega arith) e (λ x. x.link) result (λ k. refl) h

@@ -8,6 +8,7 @@ use native.Mathlib.Omega.{arith}
 use lib.ListN.{length, take, drop, get_or, length-append, length-drop, drop_of_length-le}
 use lib.Seq.{drop-cons, drop-append-le, take-append-le, drop_at, drop-drop, take-take, take-nil, get_or-take, get_or-drop, length-take-le}
 use lib.Dec.{eqb, leb}
+use lib.Pointwise.{pointwise}
 use borrow.Author.Tests.{eq-eqb, ne_eqb, leb-true, leb-false}
 use Rattle.bytes_base.specs.Choice.{pick}
 use Rattle.state_places.specs.Sizes.{value_size, notification_at, held_at}
@@ -131,9 +132,27 @@ within s at m j n h =
     ∙ ap (take n) (drop-take j (m - j) (drop at s) ∙ ap (take (m - j)) (drop-drop j at s))
     ∙ take-take n (m - j) (drop (at + j) s) (omega arith)
 
--- the part that a comparison of bytes in place speaks of
-pub slice-bytes : (s : List ℕ) (p n : ℕ) → drop p (take (p + n) s) ≡ bytes s p n
-slice-bytes s p n = drop-take p n s
+-- ---- comparing at once
+
+pub needle-length : (s : List ℕ) (at m : ℕ) → at + m ≤ length s → length (bytes s at m) ≡ m
+needle-length s at m h = length-take-le m (drop at s) (simp length-drop (omega arith))
+
+-- lists of one length
+pointwise-starts : (xs ys : List ℕ) → length xs ≡ length ys → pointwise eqb xs ys ≡ starts xs ys
+unfolding starts
+pointwise-starts [] [] e = refl
+pointwise-starts [] (y ∷ ys) e = absurd (omega arith)
+pointwise-starts (x ∷ xs) [] e = absurd (omega arith)
+pointwise-starts (x ∷ xs) (y ∷ ys) e = ap (λ (b : Bool). eqb x y && b) (pointwise-starts xs ys (omega arith))
+
+pub equal-law : (s : List ℕ) (p q n : ℕ) (r : Bool) → p + n ≤ length s → q + n ≤ length s
+    → r ≡ pointwise eqb (take (q + n - q) (drop q s)) (take (p + n - p) (drop p s)) → r ≡ starts (bytes s q n) (bytes s p n)
+equal-law s p q n r h g e =
+    let i : q + n - q ≡ n = omega arith in
+    let j : p + n - p ≡ n = omega arith in
+    e
+    ∙ ap₂ (λ (a b : ℕ). pointwise eqb (take a (drop q s)) (take b (drop p s))) i j
+    ∙ pointwise-starts (bytes s q n) (bytes s p n) (needle-length s q n g ∙ sym (needle-length s p n h))
 
 -- ---- comparing in parts, and needles that are too long
 
@@ -169,9 +188,6 @@ front-cons b r k h =
     drop-append-le k b r (omega arith)
     ∙ ap (λ (t : List ℕ). t ++ r) (drop-cons b k 0 h)
     ∙ ap (λ (t : List ℕ). get_or b k 0 ∷ t) (sym (drop-append-le (suc k) b r h) ∙ ap (λ (j : ℕ). drop j (b ++ r)) (sym (add-one k)))
-
-pub needle-length : (s : List ℕ) (at m : ℕ) → at + m ≤ length s → length (bytes s at m) ≡ m
-needle-length s at m h = length-take-le m (drop at s) (simp length-drop (omega arith))
 
 pub goes_end : (s : List ℕ) (at m : ℕ) → at + m ≤ length s → (j : ℕ) (x : List ℕ) → m ≤ j → starts (drop j (bytes s at m)) x ≡ true
 unfolding starts

@@ -29,32 +29,11 @@ const LENGTH: u64 = 72_057_594_037_927_936;
 // 245 * 2^56: the words of notifications whose values fit are below it.
 const LENGTH_END: u64 = 17_654_110_539_292_344_320;
 
-fn bit(b: bool) -> u64
-    ensures value { result ≡ pick b 1 0 }
-    ensures small { result < 2 }
-{
-    if b {
-        return 1;
-    }
-    0
-}
-
 // All but the time and the link, in one word.
 fn word_of(x: Notification) -> u64
     ensures { notification_of x.at.0 result x.link ≡ x }
 {
-    let handle = x.handle as u64;
-    let flag = bit(x.indication);
-    let len = x.len as u64;
-    let word = handle + FLAG * flag + LENGTH * len;
-    word
-}
-
-// The top byte.
-fn length_in(word: u64) -> u8
-    ensures { result ≡ word / two56 }
-{
-    (word / LENGTH) as u8
+    u64::from(x.handle) + FLAG * u64::from(x.indication) + LENGTH * u64::from(x.len)
 }
 
 // The notification in place i.
@@ -62,18 +41,13 @@ pub fn notification_at(tables: &[u64; 1152], i: usize) -> Notification
     requires { i < most_notifications }
     ensures { result ≡ get_or (notifications_in tables.now) i no_notification }
 {
-    let p = NOTIFICATION_AT + i;
-    let q = NOTIFICATION + i;
-    let at = tables[p];
-    let word = tables[q];
+    let word = tables[NOTIFICATION + i];
     let link = tables[NOTIFICATION_LINK + i];
-    let handle = (word % FLAG) as u16;
-    let len = length_in(word);
     let indication = word / FLAG % 2 == 1;
     Notification {
-        at: Micros(at),
-        handle,
-        len,
+        at: Micros(tables[NOTIFICATION_AT + i]),
+        handle: (word % FLAG) as u16,
+        len: (word / LENGTH) as u8,
         indication,
         link,
     }
@@ -84,15 +58,9 @@ fn put_notification(tables: &mut [u64; 1152], i: usize, x: Notification)
     requires { i < most_notifications }
     ensures { all.tables tables.new ≡ all.with_notifications (all.tables tables.old) (set (notifications_in tables.old) i x) }
 {
-    let size = words::size(tables);
-    let at = x.at;
-    let word = word_of(x);
-    let p = NOTIFICATION_AT + i;
-    let q = NOTIFICATION + i;
-    let r = NOTIFICATION_LINK + i;
-    tables[p] = at.0;
-    tables[q] = word;
-    tables[r] = x.link;
+    tables[NOTIFICATION_AT + i] = x.at.0;
+    tables[NOTIFICATION + i] = word_of(x);
+    tables[NOTIFICATION_LINK + i] = x.link;
 }
 
 // The first goes, the others move down by one place, the last stays too.
@@ -111,8 +79,7 @@ pub fn keep(tables: &mut [u64; 1152], count: usize, x: Notification) -> usize
 {
     if count < MAX_NOTIFICATIONS {
         put_notification(tables, count, x);
-        let more = count + 1;
-        return more;
+        return count + 1;
     }
     shift_notifications(tables);
     put_notification(tables, notifications::LAST, x);
@@ -124,14 +91,7 @@ pub fn values_fit(tables: &[u64; 1152], count: usize) -> bool
     requires { count ≤ most_notifications }
     ensures { result ≡ values_fit (take count (notifications_in tables.now)) }
 {
-    let mut ok = true;
-    let mut i = 0;
-    while i < count {
-        let p = NOTIFICATION + i;
-        ok = ok & (tables[p] < LENGTH_END);
-        i += 1;
-    }
-    ok
+    words::all_at_most(words::row(tables, NOTIFICATION, count), LENGTH_END - 1)
 }
 
 // Whether none of the first count was heard on a link of a higher number.
@@ -139,14 +99,7 @@ pub fn links_fit(tables: &[u64; 1152], count: usize, links: u64) -> bool
     requires { count ≤ most_notifications }
     ensures { result ≡ links_fit links (take count (notifications_in tables.now)) }
 {
-    let mut ok = true;
-    let mut i = 0;
-    while i < count {
-        let p = NOTIFICATION_LINK + i;
-        ok = ok & (tables[p] <= links);
-        i += 1;
-    }
-    ok
+    words::all_at_most(words::row(tables, NOTIFICATION_LINK, count), links)
 }
 
 // ---- a wait's search
@@ -156,13 +109,11 @@ fn is_any(tables: &[u64; 1152], count: usize, skip: usize, wanted: Wanted) -> bo
     requires { count ≤ most_notifications }
     ensures { (s : List ℕ) → result ≡ any wanted (drop skip (heard s (live (kept_in tables.now count)))) }
 {
-    let mut i = skip;
-    while i < count {
+    for i in skip..count {
         let x = notification_at(tables, i);
         if notifications::does_count(wanted, x) {
             return true;
         }
-        i += 1;
     }
     false
 }
@@ -179,13 +130,11 @@ pub fn newest_counted(
     ensures { result ≡ newest_counted wanted (first + skip) 0 (drop skip (live (kept_in tables.now count))) }
 {
     let mut newest = 0;
-    let mut i = skip;
-    while i < count {
+    for i in skip..count {
         let x = notification_at(tables, i);
         if notifications::does_count(wanted, x) {
             newest = first + i as u64 + 1;
         }
-        i += 1;
     }
     newest
 }
@@ -197,7 +146,7 @@ fn own_size(tables: &[u64; 1152], i: usize, wanted: Wanted) -> usize
 {
     let own = notification_at(tables, i);
     if notifications::does_count(wanted, own) {
-        return own.len as usize;
+        return usize::from(own.len);
     }
     0
 }
@@ -208,22 +157,11 @@ fn joined_size(tables: &[u64; 1152], count: usize, skip: usize, wanted: Wanted) 
     ensures { (s : List ℕ) → held_at ≤ length s → result ≡ length (joined wanted tables.now s count skip) }
 {
     let mut n = 0;
-    let mut i = skip;
-    while i < count {
+    for i in skip..count {
         let size = own_size(tables, i, wanted);
         n += size;
-        i += 1;
     }
     n
-}
-
-fn least(a: usize, b: usize) -> usize
-    ensures { result ≡ min a b }
-{
-    if a < b {
-        return a;
-    }
-    b
 }
 
 // Whether the n bytes of the store from p on are those from q on.
@@ -231,14 +169,7 @@ fn are_equal(store: &[u8], p: usize, q: usize, n: usize) -> bool
     requires { (p + n ≤ length store.now) × (q + n ≤ length store.now) }
     ensures { result ≡ starts (bytes store.now q n) (bytes store.now p n) }
 {
-    let mut j = 0;
-    while j < n {
-        if store[p + j] != store[q + j] {
-            return false;
-        }
-        j += 1;
-    }
-    true
+    store[q..q + n] == store[p..p + n]
 }
 
 // Whether the values go on, from byte `from` of place `first` on, with the m bytes of the store from at on but the first.
@@ -259,9 +190,10 @@ fn goes_on(
     let mut i = first;
     let mut o = from;
     let mut j = 1;
+    // Kept: a while, since j goes on by as many bytes as a value has.
     while j < m {
         let size = own_size(tables, i, wanted);
-        let n = least(size - o, m - j);
+        let n = (size - o).min(m - j);
         let place = state_places::notification_at(i) + o;
         if !are_equal(store, place, at + j, n) {
             return false;
@@ -289,14 +221,12 @@ fn begins_in(
 {
     let place = state_places::notification_at(i);
     let b = store[at];
-    let mut k = 0;
-    while k < tries {
+    for k in 0..tries {
         if store[place + k] == b {
             if goes_on(tables, count, wanted, store, i, k + 1, at, m) {
                 return true;
             }
         }
-        k += 1;
     }
     false
 }
@@ -316,9 +246,10 @@ fn is_found(
 {
     let mut rest = joined_size(tables, count, skip, wanted);
     let mut i = skip;
+    // Kept: a while, since it ends by the bytes that are left, and not by a count of places.
     while m <= rest {
         let size = own_size(tables, i, wanted);
-        let tries = least(size, rest - (m - 1));
+        let tries = size.min(rest - (m - 1));
         if begins_in(tables, count, wanted, store, i, tries, at, m) {
             return true;
         }

@@ -1,17 +1,19 @@
 -- A report put into words is read again, and the other tables stay; what the searches ask.
-use Prim.Native.Nat.{ℕ, ◌+◌, ◌*◌, ◌/◌, ◌%◌, ◌<◌, ◌≤◌}
-use mathlib.Core.Path.{◌≡◌, refl, sym, ap, ◌∙◌}
-use mathlib.Core.Bool.{Bool, true, false}
-use mathlib.Core.List.{List}
+use Prim.Native.Nat.{ℕ, suc, ◌+◌, ◌*◌, ◌/◌, ◌%◌, ◌<◌, ◌≤◌}
+use mathlib.Core.Path.{◌≡◌, refl, sym, ap, ap₂, ◌∙◌}
+use mathlib.Core.Bool.{Bool, true, false, not, ◌&&◌, ◌||◌}
+use mathlib.Core.List.{List, [], ◌∷◌}
 use native.Mathlib.Omega.{arith}
-use lib.ListN.{length, take, drop, get_or, set, length-set}
-use lib.Seq.{get_or-set_same, get_or-set_other}
+use lib.ListN.{length, take, drop, get_or, set, length-set, length-drop}
+use lib.Seq.{get_or-set_same, get_or-set_other, length-take-le}
+use Rattle.std.specs.Prelude.{Option, Some, None, cond, nat_lt, position}
+use Rattle.std.specs.List.{list_any, prefix_len}
+use Rattle.std.specs.Option.{unwrap_or}
 use lib.Dec.{eqb}
-use borrow.Author.Tests.{eq-eqb, ne_eqb, eqb-true, eqb-false}
+use borrow.Author.Tests.{eq-eqb, ne_eqb, eqb-true, eqb-false, ltb-false}
 use Rattle.bytes_base.specs.Choice.{pick}
 use Rattle.lists.specs.Queue.{shifted}
 use Rattle.adv_reports.specs.Key.{seek, among}
-use Rattle.adv_reports.proofs.KeyLaws.{seek-here, seek-on, seek-end, among-here, among-on, among-end}
 use Rattle.state.specs.declared.Heard.{Heard}
 use Rattle.words.specs.Words.{time_of, channel_of, pdu_of, data_len_of, response_of}
 use Rattle.words.specs.Table.{table}
@@ -19,6 +21,7 @@ use Rattle.words.specs.Tables.{word, tables, with_reports, with_keys, who_in, he
 use Rattle.words.specs.Rows.{Same, Lowered}
 use Rattle.words.proofs.TableLaws.{table_at, table-set, table-lowered}
 use Rattle.words.proofs.RowLaws.{steps-same, results_same, services-same, characteristics-same, notifications-same, who-same, heard-same, keys-same, length-who, length-keys, who-at, key-at}
+use Rattle.words.proofs.SearchLaws.{row-taken}
 use Rattle.words_report.specs.declared.Report.{Report}
 use Rattle.words_report.specs.Places.{report_in, heard_put, report_put, heard_down, reports_down}
 
@@ -243,31 +246,50 @@ key-law w i k long b =
       e,
     )
 
--- ---- searches
+-- ---- searches: what the library's methods say of a row
 
-module _ (w : List ℕ) (k n i : ℕ) where
-  module _ (m : n ≤ 64) where
-    whos : n ≤ length (who_in w)
-    whos = omega (arith, length-who w)
+seek-prefix : (k : ℕ) (l : List ℕ) → prefix_len (λ x. not (eqb x k)) l ≡ seek k l
+unfolding seek
+seek-prefix k [] = refl
+seek-prefix k (x ∷ l) = go (eqb x k) (seek-prefix k l)
+  where
+    go : (b : Bool) → prefix_len (λ y. not (eqb y k)) l ≡ seek k l → cond (not b) (1 + prefix_len (λ y. not (eqb y k)) l) 0 ≡ pick b 0 (suc (seek k l))
+    go true e = refl
+    go false e = omega (arith, e)
 
-    pub find-here : i < n → get_or w (736 + i) 0 ≡ k → i + seek k (drop i (take n (who_in w))) ≡ i
-    find-here h e = seek-here k (who_in w) n i whos h (who-at w i (omega arith) ∙ e)
+seek-few : (k : ℕ) (l : List ℕ) → seek k l ≤ length l
+unfolding seek
+seek-few k [] = omega arith
+seek-few k (x ∷ l) = go (eqb x k) (seek-few k l)
+  where
+    go : (b : Bool) → seek k l ≤ length l → pick b 0 (suc (seek k l)) ≤ suc (length l)
+    go true h = omega arith
+    go false h = omega arith
 
-    pub find-on : i < n → (get_or w (736 + i) 0 ≡ k → ⊥) → i + seek k (drop i (take n (who_in w))) ≡ i + 1 + seek k (drop (i + 1) (take n (who_in w)))
-    find-on h e = seek-on k (who_in w) n i whos h (λ q. e (sym (who-at w i (omega arith)) ∙ q))
+pub find-law : (w words : List ℕ) (n key : ℕ) (o : Option ℕ) (r : ℕ) → n ≤ 64 → length w ≡ 1152 → words ≡ take n (drop 736 w)
+    → o ≡ position (λ x. eqb x key) words → r ≡ unwrap_or o n → (r ≡ seek key (take n (who_in w))) × (r ≤ n)
+unfolding who_in
+find-law w words n key o r few long e f g =
+    let size : length words ≡ n = ap length e ∙ length-take-le n (drop 736 w) (simp length-drop (omega arith)) in
+    let bound : seek key words ≤ n = omega (arith, seek-few key words, size) in
+    let same : r ≡ seek key words =
+      g
+      ∙ ap (λ (x : Option ℕ). unwrap_or x n) f
+      ∙ ap₂ (λ (x y : ℕ). unwrap_or (cond (nat_lt x y) (Some x) None) n) (seek-prefix key words) size
+      ∙ go (seek key words) bound (nat_lt (seek key words) n) refl in
+    (same ∙ ap (seek key) (e ∙ row-taken w 64 n 736 few (omega arith)), omega (arith, same, bound))
+  where
+    go : (s : ℕ) → s ≤ n → (b : Bool) → nat_lt s n ≡ b → unwrap_or (cond b (Some s) None) n ≡ s
+    go s h true q = refl
+    go s h false q = omega (arith, ltb-false s n q, h)
 
-    pub find-end : n ≤ i → i + seek k (drop i (take n (who_in w))) ≡ i
-    find-end h = seek-end k (who_in w) n i whos h
+among-is : (k : ℕ) (l : List ℕ) → list_any (λ x. eqb x k) l ≡ among k l
+unfolding among
+among-is k [] = refl
+among-is k (x ∷ l) = ap (λ (b : Bool). eqb x k || b) (among-is k l)
 
-  module _ (m : n ≤ 128) where
-    keys : n ≤ length (keys_in w)
-    keys = omega (arith, length-keys w)
-
-    pub due-here : i < n → get_or w (928 + i) 0 ≡ k → among k (drop i (take n (keys_in w))) ≡ true
-    due-here h e = among-here k (keys_in w) n i keys h (key-at w i (omega arith) ∙ e)
-
-    pub due-on : i < n → (get_or w (928 + i) 0 ≡ k → ⊥) → among k (drop i (take n (keys_in w))) ≡ among k (drop (i + 1) (take n (keys_in w)))
-    due-on h e = among-on k (keys_in w) n i keys h (λ q. e (sym (key-at w i (omega arith)) ∙ q))
-
-    pub due-end : n ≤ i → among k (drop i (take n (keys_in w))) ≡ false
-    due-end h = among-end k (keys_in w) n i keys h
+pub due-law : (w words : List ℕ) (n key : ℕ) (asks r : Bool) → n ≤ 128 → length w ≡ 1152 → asks ≡ true → words ≡ take n (drop 928 w)
+    → r ≡ list_any (λ x. eqb x key) words → not r ≡ (asks && not (among key (take n (keys_in w))))
+unfolding keys_in
+due-law w words n key asks r few long q e f =
+    rw q (ap not (f ∙ among-is key words ∙ ap (among key) (e ∙ row-taken w 128 n 928 few (omega arith))))

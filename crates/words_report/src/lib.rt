@@ -2,7 +2,7 @@
 // asked: one word for each of 128 places.
 #![tactic(auto)]
 
-ghost use Rattle.std.specs.Prelude.{◌≡◌, ◌&&◌, not, ◌≤◌, ◌<◌, take, set, eqb};
+ghost use Rattle.std.specs.Prelude.{◌≡◌, ◌&&◌, position, not, ◌≤◌, ◌<◌, take, set, eqb};
 ghost use Rattle.bytes_base.specs.Choice.{pick};
 ghost use Rattle.state_places.specs.Sizes.{most_reports, most_keys, data_size};
 ghost use Rattle.adv_reports.specs.Key.{seek, among};
@@ -56,7 +56,7 @@ fn response_bits(n: u8) -> u64
     if n == NO_RESPONSE {
         return NONE;
     }
-    n as u64
+    u64::from(n)
 }
 
 // All but the advertiser and the time, in one word.
@@ -64,9 +64,9 @@ fn word_of(x: Report) -> u64
     requires { (x.len ≤ data_size) × (x.response ≤ no_response) }
     ensures { (channel_of result ≡ x.channel) × (pdu_of result ≡ x.pdu) × (data_len_of result ≡ x.len) × (response_of result ≡ x.response) }
 {
-    let channel = x.channel as u64;
-    let pdu = x.pdu as u64;
-    let len = x.len as u64;
+    let channel = u64::from(x.channel);
+    let pdu = u64::from(x.pdu);
+    let len = u64::from(x.len);
     let response = response_bits(x.response);
     let word = channel + PDU * pdu + DATA * len + RESPONSE * response;
     word
@@ -87,12 +87,9 @@ pub fn report_at(tables: &[u64; 1152], i: usize) -> Report
     ensures value { result ≡ report_in (all.tables tables.now) i }
     ensures short { (result.len ≤ data_size) × (result.response ≤ no_response) }
 {
-    let p = REPORT_WHO + i;
-    let q = REPORT_AT + i;
-    let o = REPORT + i;
-    let who = tables[p];
-    let at = tables[q];
-    let word = tables[o];
+    let who = tables[REPORT_WHO + i];
+    let at = tables[REPORT_AT + i];
+    let word = tables[REPORT + i];
     let channel = (word % BYTES) as u8;
     let pdu = (word / PDU % BYTES) as u8;
     let len = (word / DATA % LENGTHS) as u8;
@@ -112,15 +109,9 @@ pub fn put_report(tables: &mut [u64; 1152], i: usize, x: Report)
     requires { (i < most_reports) × (x.len ≤ data_size) × (x.response ≤ no_response) }
     ensures { all.tables tables.new ≡ report_put (all.tables tables.old) i x }
 {
-    let size = words::size(tables);
-    let at = x.at;
-    let word = word_of(x);
-    let p = REPORT_WHO + i;
-    let q = REPORT_AT + i;
-    let o = REPORT + i;
-    tables[p] = x.who;
-    tables[q] = at.0;
-    tables[o] = word;
+    tables[REPORT_WHO + i] = x.who;
+    tables[REPORT_AT + i] = x.at.0;
+    tables[REPORT + i] = word_of(x);
 }
 
 // ---- all reports
@@ -134,20 +125,19 @@ pub fn shift_reports(tables: &mut [u64; 1152])
     words::lower(tables, REPORT, adv_reports::LAST);
 }
 
+// Where the first of the words that are the key is.
+fn first_of(words: &[u64], key: u64) -> Option<usize>
+    ensures { result ≡ position (λ word. eqb word key) words.now }
+{
+    words.iter().position(|word| *word == key)
+}
+
 // Where the first report of an advertiser is, or count.
 pub fn find_report(tables: &[u64; 1152], count: usize, key: u64) -> usize
     requires { count ≤ most_reports }
     ensures { (result ≡ seek key (take count (who_in tables.now))) × (result ≤ count) }
 {
-    let mut i = 0;
-    while i < count {
-        let p = REPORT_WHO + i;
-        if tables[p] == key {
-            return i;
-        }
-        i += 1;
-    }
-    count
+    first_of(words::row(tables, REPORT_WHO, count), key).unwrap_or(count)
 }
 
 // ---- the advertisers that were asked
@@ -157,18 +147,7 @@ pub fn is_due(asks: bool, tables: &[u64; 1152], count: usize, key: u64) -> bool
     requires { count ≤ most_keys }
     ensures { result ≡ (asks && not (among key (take count (keys_in tables.now)))) }
 {
-    if !asks {
-        return false;
-    }
-    let mut i = 0;
-    while i < count {
-        let k = KEY + i;
-        if tables[k] == key {
-            return false;
-        }
-        i += 1;
-    }
-    true
+    asks && !words::row(tables, KEY, count).contains(&key)
 }
 
 // The advertiser goes into place i.
@@ -176,7 +155,5 @@ pub fn put_key(tables: &mut [u64; 1152], i: usize, key: u64)
     requires { i < most_keys }
     ensures { all.tables tables.new ≡ all.with_keys (all.tables tables.old) (set (keys_in tables.old) i key) }
 {
-    let size = words::size(tables);
-    let p = KEY + i;
-    tables[p] = key;
+    tables[KEY + i] = key;
 }

@@ -14,7 +14,7 @@ pub bounds-store-at : goal.bounds-store-at
 bounds-store-at c = omega (arith, c.requires.0.3, c.requires.0.4)
 
 pub loop-k-init : goal.loop-k-init
-loop-k-init c = (omega arith, refl)
+loop-k-init c = refl
 
 pub overflow_add-place : goal.overflow_add-place
 overflow_add-place c =
@@ -67,34 +67,25 @@ returns-then-goes_on c =
     let a = c.args in
     let q = c.requires in
     let place = c.notification_at-place.ensures in
-    l.invariant.1
+    l.invariant
     ∙ byte-found a.wanted a.tables.now a.store.now a.count a.i a.at a.m q.0 q.1 _ _ place refl l.k (omega (arith, q.2))
     c.if-store-place.true _ c.goes_on.ensures c.if-goes_on.true
-
-pub overflow_add-k-in-loop-k : goal.overflow_add-k-in-loop-k
-overflow_add-k-in-loop-k c =
-    let l = c.loop-k in
-    let a = c.args in
-    let q = c.requires in
-    omega (arith, q.2, size_small a.wanted a.tables.now a.store.now a.count a.i a.at a.m q.0 q.1)
 
 pub loop-k-preserved : goal.loop-k-preserved
 loop-k-preserved c =
     let l = c.loop-k in
     let a = c.args in
     let q = c.requires in
-    let place = c.notification_at-place.ensures in (
-      omega arith,
-      l.invariant.1
+    let place = c.notification_at-place.ensures in
+      l.invariant
           ∙ elim c.if-store-place.branch [
             | then-store-place+else-goes_on w ↦ byte-passed a.wanted a.tables.now a.store.now a.count a.i a.at a.m q.0 q.1 _ _ place refl l.k (omega (arith, q.2)) w.if-store-place.true _ w.goes_on.ensures w.if-goes_on.false
             | else-store-place w ↦ byte-differs a.wanted a.tables.now a.store.now a.count a.i a.at a.m q.0 q.1 _ _ place refl l.k (omega (arith, q.2)) w.if-store-place.false
-          ],
-    )
+          ]
 
 pub returns : goal.returns
 returns c =
     let l = c.loop-k in
     let a = c.args in
-    let e : l.k ≡ a.tries = omega (arith, l.invariant.0, c.loop-k-test.false) in
-    l.invariant.1 ∙ ap (λ (k : ℕ). stands a.wanted a.tables.now a.store.now a.count a.i k a.at a.m) e
+    let e : l.k ≡ a.tries = omega (arith, c.loop-k-test.false) in
+    l.invariant ∙ ap (λ (k : ℕ). stands a.wanted a.tables.now a.store.now a.count a.i k a.at a.m) e

@@ -41,7 +41,7 @@ are_equal-requires c =
     let p = l.invariant.4 t in
     let place = c.notification_at.ensures in
     let z = c.own_size-size.ensures in
-    let n = c.least-n.ensures in
+    let n = c.min-n.ensures in
     (omega (arith, place, q.2, n, z, l.invariant.2, size_small a.wanted a.tables.now a.store.now a.count l.i a.at a.m q p), omega (arith, n, q.3))
 
 pub returns-then-not-are_equal : goal.returns-then-not-are_equal
@@ -53,7 +53,7 @@ returns-then-not-are_equal c =
     let p = l.invariant.4 t in
     let place = c.notification_at.ensures in
     let z = c.own_size-size.ensures in
-    let n = c.least-n.ensures in
+    let n = c.min-n.ensures in
     sym (l.invariant.1
     ∙ value-differs a.wanted a.tables.now a.store.now a.count l.i a.at a.m q p _ _ place z l.j l.o _ _ t l.invariant.2 n
     c.are_equal.ensures c.if-not-are_equal.true)
@@ -77,7 +77,7 @@ loop-j-preserved c =
     let p = l.invariant.4 t in
     let place = c.notification_at.ensures in
     let z = c.own_size-size.ensures in
-    let n = c.least-n.ensures in
+    let n = c.min-n.ensures in
     let far =
     value-far a.wanted a.tables.now a.store.now a.count l.i a.at a.m q p _ _ place z l.j l.o _ _ t l.invariant.2 n
     c.are_equal.ensures l.invariant.3 in (
@@ -87,7 +87,7 @@ loop-j-preserved c =
           c.are_equal.ensures c.if-not-are_equal.false,
       omega arith,
       far,
-      still-on a.wanted a.tables.now a.store.now a.count (l.i + 1) q.0 0 (l.j + c.least-n.result) a.m far,
+      still-on a.wanted a.tables.now a.store.now a.count (l.i + 1) q.0 0 (l.j + c.min-n.result) a.m far,
     )
 
 pub returns : goal.returns

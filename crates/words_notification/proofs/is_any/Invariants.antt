@@ -9,6 +9,3 @@ use Rattle.words_notification.proofs.is_any.Given as goal
 
 abbrev pub invariant-loop-i : goal.invariant-loop-i
 invariant-loop-i l = (s : List ℕ) → any l.wanted (drop l.skip (heard s (live (kept_in l.tables l.count)))) ≡ any l.wanted (drop l.i (heard s (live (kept_in l.tables l.count))))
-
-abbrev pub decreases-loop-i : goal.decreases-loop-i
-decreases-loop-i l = l.count - l.i

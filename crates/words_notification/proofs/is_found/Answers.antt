@@ -33,7 +33,7 @@ begins_in-requires c =
     let t = c.loop-rest-test.true in
     let p = l.invariant.2 t in
     let z = c.own_size-size.ensures in
-    let n = c.least-tries.ensures in
+    let n = c.min-tries.ensures in
     (q, p, omega (arith, z, n), omega (arith, n, t, l.invariant.1, q.4))
 
 pub returns-then-begins_in : goal.returns-then-begins_in
@@ -46,7 +46,7 @@ returns-then-begins_in c =
     let z = c.own_size-size.ensures in
     sym (l.invariant.0
     ∙ place_found a.wanted a.tables.now a.store.now a.count l.i a.at a.m q p _ _ refl z c.begins_in.result
-    c.least-tries.result c.begins_in.ensures c.if-begins_in.true)
+    c.min-tries.result c.begins_in.ensures c.if-begins_in.true)
 
 pub overflow_sub-rest-in-loop-rest : goal.overflow_sub-rest-in-loop-rest
 overflow_sub-rest-in-loop-rest c =
@@ -80,7 +80,7 @@ loop-rest-preserved c =
     omega (arith, z, l.invariant.1, size-length a.wanted a.tables.now a.store.now a.count l.i a.at a.m q p) in (
       l.invariant.0
           ∙ place-passed a.wanted a.tables.now a.store.now a.count l.i a.at a.m q p _ _ refl z c.begins_in.result
-          c.least-tries.result c.begins_in.ensures c.if-begins_in.false l.rest l.invariant.1 t c.least-tries.ensures,
+          c.min-tries.result c.begins_in.ensures c.if-begins_in.false l.rest l.invariant.1 t c.min-tries.ensures,
       e,
       λ u. still a.wanted a.tables.now a.store.now a.count (l.i + 1) q.0 (omega (arith, e, u, q.4)),
     )

@@ -8,6 +8,3 @@ use Rattle.words_notification.proofs.joined_size.Given as goal
 
 abbrev pub invariant-loop-i : goal.invariant-loop-i
 invariant-loop-i l = ((s : List ℕ) → held_at ≤ length s → l.n + length (joined l.wanted l.tables s l.count l.i) ≡ length (joined l.wanted l.tables s l.count l.skip)) × (l.n ≤ value_size * l.i)
-
-abbrev pub decreases-loop-i : goal.decreases-loop-i
-decreases-loop-i l = l.count - l.i

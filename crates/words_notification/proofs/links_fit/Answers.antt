@@ -1,17 +1,5 @@
-use Prim.Native.Nat.{◌-◌}
-use mathlib.Core.Path.{refl, sym, ◌∙◌}
-use Rattle.words_notification.proofs.NotificationLaws.{link_on, link-end}
+use Rattle.words_notification.proofs.NotificationLaws.{links-law}
 use Rattle.words_notification.proofs.links_fit.Goals as goal
 
-pub loop-i-init : goal.loop-i-init
-loop-i-init c = (refl, c.requires)
-
-pub loop-i-preserved : goal.loop-i-preserved
-loop-i-preserved c =
-    let l = c.loop-i in
-    (sym (link_on c.args.tables.now _ l.i l.ok l.invariant.1 _ c.loop-i-test.true) ∙ l.invariant.0, l.invariant.1)
-
 pub returns : goal.returns
-returns c =
-    let l = c.loop-i in
-    sym (link-end c.args.tables.now _ l.i l.ok l.invariant.1 _ c.loop-i-test.false) ∙ l.invariant.0
+returns c = links-law c.args.tables.now _ c.args.count _ c.requires c.told-tables c.args.links c.row.ensures c.all_at_most.ensures

@@ -8,6 +8,3 @@ use Rattle.words_notification.proofs.newest_counted.Given as goal
 
 abbrev pub invariant-loop-i : goal.invariant-loop-i
 invariant-loop-i l = newest_counted l.wanted (l.first + l.skip) 0 (drop l.skip (live (kept_in l.tables l.count))) ≡ newest_counted l.wanted (l.first + l.i) l.newest (drop l.i (live (kept_in l.tables l.count)))
-
-abbrev pub decreases-loop-i : goal.decreases-loop-i
-decreases-loop-i l = l.count - l.i

@@ -1,17 +1,5 @@
-use Prim.Native.Nat.{◌-◌}
-use mathlib.Core.Path.{refl, sym, ◌∙◌}
-use Rattle.words_notification.proofs.NotificationLaws.{value_on, value-end}
+use Rattle.words_notification.proofs.NotificationLaws.{values-law}
 use Rattle.words_notification.proofs.values_fit.Goals as goal
 
-pub loop-i-init : goal.loop-i-init
-loop-i-init c = (refl, c.requires)
-
-pub loop-i-preserved : goal.loop-i-preserved
-loop-i-preserved c =
-    let l = c.loop-i in
-    (sym (value_on c.args.tables.now _ l.i l.ok l.invariant.1 c.loop-i-test.true) ∙ l.invariant.0, l.invariant.1)
-
 pub returns : goal.returns
-returns c =
-    let l = c.loop-i in
-    sym (value-end c.args.tables.now _ l.i l.ok l.invariant.1 c.loop-i-test.false) ∙ l.invariant.0
+returns c = values-law c.args.tables.now _ c.args.count _ c.requires c.told-tables c.row.ensures c.all_at_most.ensures

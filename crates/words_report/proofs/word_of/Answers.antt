@@ -9,4 +9,4 @@ returns c =
     let pre-0 = c.requires.0 in
     let pre-1 = c.requires.1 in
     let response-bits-ensures-0 = c.response_bits-response.ensures.value in
-    word_read args-x response-bits-result (omega arith) (omega arith) pre-0 pre-1 response-bits-ensures-0
+    rw (c.from-channel.ensures, c.from-pdu.ensures, c.from-len.ensures) (word_read args-x response-bits-result (omega arith) (omega arith) pre-0 pre-1 response-bits-ensures-0)
