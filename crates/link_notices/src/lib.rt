@@ -12,7 +12,8 @@ pub fn note(k: Counters) -> Counters
     requires { k.notified < most_notified }
     ensures { result ≡ noted k }
 {
-    let mut o = k;
-    o.notified = k.notified + 1;
-    o
+    Counters {
+        notified: k.notified + 1,
+        ..k
+    }
 }

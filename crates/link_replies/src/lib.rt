@@ -24,13 +24,7 @@ const VALUE_AT: usize = link_payload::PAYLOAD_AT + l2cap::ATT_HEAD;
 fn clamp(mtu: u16) -> u16
     ensures { result ≡ max default_mtu (min mtu most_mtu) }
 {
-    if mtu < att_pdu::DEFAULT_MTU {
-        att_pdu::DEFAULT_MTU
-    } else if MAX_MTU < mtu {
-        MAX_MTU
-    } else {
-        mtu
-    }
+    mtu.clamp(att_pdu::DEFAULT_MTU, MAX_MTU)
 }
 
 // The peer asks for an MTU: it gets ours, and its own holds.

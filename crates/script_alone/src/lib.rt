@@ -12,34 +12,18 @@ pub fn alone_with(step: Step) -> Alone
 {
     match step {
         Step::Scan { ms } => Alone::Runs(ms),
-        Step::Connect {
-            target: _,
-            interval: _,
-            latency: _,
-            timeout: _,
-            within_ms,
-        } => Alone::Runs(within_ms),
-        Step::ExchangeMtu { mtu: _ } => Alone::NeedsLink,
+        Step::Connect { within_ms, .. } => Alone::Runs(within_ms),
+        Step::ExchangeMtu { .. } => Alone::NeedsLink,
         Step::DiscoverServices => Alone::NeedsLink,
-        Step::DiscoverCharacteristics { service: _ } => Alone::NeedsLink,
-        Step::Subscribe {
-            characteristic: _,
-            indicate: _,
-        } => Alone::NeedsLink,
-        Step::Write {
-            characteristic: _,
-            with_response: _,
-        } => Alone::NeedsLink,
-        Step::Read { characteristic: _ } => Alone::NeedsLink,
-        Step::WaitNotification {
-            characteristic: _,
-            within_ms: _,
-            age: _,
-        } => Alone::NeedsLink,
+        Step::DiscoverCharacteristics { .. } => Alone::NeedsLink,
+        Step::Subscribe { .. } => Alone::NeedsLink,
+        Step::Write { .. } => Alone::NeedsLink,
+        Step::Read { .. } => Alone::NeedsLink,
+        Step::WaitNotification { .. } => Alone::NeedsLink,
         Step::Wait { ms } => Alone::Runs(ms),
         Step::Disconnect => Alone::NeedsLink,
-        Step::Capture { enabled: _ } => Alone::Done,
-        Step::CaptureSecrets { secrets: _ } => Alone::Done,
+        Step::Capture { .. } => Alone::Done,
+        Step::CaptureSecrets { .. } => Alone::Done,
     }
 }
 

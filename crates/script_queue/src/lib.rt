@@ -22,11 +22,11 @@ use time::Micros;
 fn value_len(p: Placed) -> usize
     ensures { result ≡ value_len p }
 {
-    let step = p.step;
-    if state_kinds::carries(step) {
-        return p.len;
+    if state_kinds::carries(p.step) {
+        p.len
+    } else {
+        0
     }
-    0
 }
 
 // All that a batch changes of the core: a loop that carries these two numbers goes faster than one that carries the core.
@@ -39,11 +39,9 @@ struct Line {
 fn line_of(c: Core) -> Line
     ensures { result ≡ line_of c }
 {
-    let counts = c.counts;
-    let counters = c.counters;
     Line {
-        waiting: counts.waiting,
-        refused: counters.refused_steps,
+        waiting: c.counts.waiting,
+        refused: c.counters.refused_steps,
     }
 }
 
@@ -97,11 +95,8 @@ pub fn push_all(
     let all = b.steps;
     let count = b.count;
     let mut l = line_of(c);
-    let mut i = 0;
-    while i < count {
-        let p = all[i];
-        l = push_one(l, tables, store, values, p);
-        i += 1;
+    for i in 0..count {
+        l = push_one(l, tables, store, values, all[i]);
     }
     with_line(c, l)
 }

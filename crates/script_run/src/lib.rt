@@ -15,9 +15,7 @@ use time::Micros;
 fn can_go(c: Core) -> bool
     ensures { (w : List ℕ) → result ≡ can_go (central c w) }
 {
-    let running = c.running;
-    let counts = c.counts;
-    !running.active & (0 < counts.waiting)
+    !c.running.active & (0 < c.counts.waiting)
 }
 
 // ---- with a link or without
@@ -52,6 +50,7 @@ pub fn advance(
     ensures { world result tables.new store.new out.new ≡ advance (world t tables.old store.old out.old) at }
 {
     let mut u = t;
+    // Kept: a while, since how many steps begin shows only as each of them begins.
     while can_go(u.core) {
         u = step_once(u, tables, store, out, at);
     }
@@ -73,6 +72,7 @@ pub fn advance_unlinked(c: Core, tables: &mut [u64; 1152], store: &mut [u8], at:
     ensures { held result tables.new store.new ≡ advance_unlinked (held c tables.old store.old) at }
 {
     let mut d = c;
+    // Kept: a while, as in `advance`.
     while can_go(d) {
         d = step_unlinked(d, tables, store, at);
     }

@@ -11,18 +11,17 @@ use time::Micros;
 pub fn is_due(r: Running, at: Micros) -> bool
     ensures { result ≡ due r at }
 {
-    let deadline = r.deadline;
-    r.active & (r.dated & (deadline.0 <= at.0))
+    r.active & (r.dated & (r.deadline.0 <= at.0))
 }
 
 // The bearer of a step that its deadline ends: in strict mode it is closed, if the step's request is still awaited.
 pub fn closing(o: Options, r: Running, b: Bearer) -> Bearer
     ensures { result ≡ closing o r b }
 {
-    let step = r.step;
     let link = b.link;
     let awaits = b.present & !(link.pending == 0);
-    let mut c = b;
-    c.closed = b.closed | (o.strict & (state_kinds::is_att(step) & awaits));
-    c
+    Bearer {
+        closed: b.closed | (o.strict & (state_kinds::is_att(r.step) & awaits)),
+        ..b
+    }
 }

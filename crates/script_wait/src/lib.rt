@@ -16,22 +16,24 @@ use time::Micros;
 fn pass(k: Counters) -> Counters
     ensures { result ≡ passed k }
 {
-    let mut o = k;
-    o.wait_from = k.notified;
-    o
+    Counters {
+        wait_from: k.notified,
+        ..k
+    }
 }
 
 // What a wait on a handle goes by.
 fn wanted(c: Core, at: Micros, handle: u16, age: Age) -> Wanted
     ensures { (w : List ℕ) → result ≡ wanted (central c w) at handle age }
 {
-    let counters = c.counters;
-    let bearer = c.bearer;
     Wanted {
         handle,
         age,
-        linked: bearer.present,
-        link: counters.links,
+        link: if c.bearer.present {
+            Some(c.counters.links)
+        } else {
+            None
+        },
         now: at,
     }
 }
@@ -46,7 +48,7 @@ fn wait_passes(c: Core, tables: &[u64; 1152], store: &[u8], w: Wanted) -> bool
     let counts = c.counts;
     let kept = counts.notifications;
     let skip = notifications::skipped(counters.notified, kept, counters.wait_from);
-    let len = running.len as usize;
+    let len = usize::from(running.len);
     words_notification::wait_passes(tables, kept, skip, w, store, state_places::RUNNING_AT, len)
 }
 
@@ -107,42 +109,19 @@ fn check_one(
 }
 
 // The characteristic that a step waits on, and with which age.
-fn awaited_by(step: Step) -> Awaited
+fn awaited_by(step: Step) -> Option<Awaited>
     ensures { result ≡ awaited step }
 {
     match step {
-        Step::Scan { ms: _ } => Awaited::Nothing,
-        Step::Connect {
-            target: _,
-            interval: _,
-            latency: _,
-            timeout: _,
-            within_ms: _,
-        } => Awaited::Nothing,
-        Step::ExchangeMtu { mtu: _ } => Awaited::Nothing,
-        Step::DiscoverServices => Awaited::Nothing,
-        Step::DiscoverCharacteristics { service: _ } => Awaited::Nothing,
-        Step::Subscribe {
-            characteristic: _,
-            indicate: _,
-        } => Awaited::Nothing,
-        Step::Write {
-            characteristic: _,
-            with_response: _,
-        } => Awaited::Nothing,
-        Step::Read { characteristic: _ } => Awaited::Nothing,
         Step::WaitNotification {
             characteristic,
-            within_ms: _,
             age,
-        } => Awaited::On {
+            ..
+        } => Some(Awaited {
             characteristic,
             age,
-        },
-        Step::Wait { ms: _ } => Awaited::Nothing,
-        Step::Disconnect => Awaited::Nothing,
-        Step::Capture { enabled: _ } => Awaited::Nothing,
-        Step::CaptureSecrets { secrets: _ } => Awaited::Nothing,
+        }),
+        _ => None,
     }
 }
 
@@ -155,11 +134,13 @@ pub fn check_wait(c: Core, tables: &mut [u64; 1152], store: &mut [u8], at: Micro
     let step = running.step;
     if running.active {
         match awaited_by(step) {
-            Awaited::Nothing => c,
-            Awaited::On {
-                characteristic,
-                age,
-            } => {
+            None => c,
+            Some(
+                Awaited {
+                    characteristic,
+                    age,
+                },
+            ) => {
                 let counts = c.counts;
                 let x = words_characteristic::find_characteristic(
                     tables,

@@ -6,6 +6,3 @@ use Rattle.script_queue.proofs.push_all.Given as goal
 
 abbrev pub invariant-loop-i : goal.invariant-loop-i
 invariant-loop-i l = Pushing (held l.c l.initial.tables l.initial.store) (held (with_line l.c l.l) l.tables l.store) l.values l.all l.count l.i
-
-abbrev pub decreases-loop-i : goal.decreases-loop-i
-decreases-loop-i l = l.count - l.i

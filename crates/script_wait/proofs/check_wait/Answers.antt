@@ -1,15 +1,15 @@
 use Rattle.script_wait.proofs.WaitLaws.{check-idle, check-other, check-named}
 use Rattle.script_wait.proofs.check_wait.Goals as goal
 
-pub returns-in-Nothing : goal.returns-in-Nothing
-returns-in-Nothing c = check-other _ _ _ _ _ c.if-running.true c.awaited_by.ensures c.in-Nothing.is
+pub returns-in-None : goal.returns-in-None
+returns-in-None c = check-other _ _ _ _ _ c.if-running.true c.awaited_by.ensures c.in-None.is
 
-pub returns-in-On : goal.returns-in-On
-returns-in-On c =
+pub returns-in-Some : goal.returns-in-Some
+returns-in-Some c =
     check-named c.args.c _ _ _ _ _ _ _ _
     c.if-running.true
     c.awaited_by.ensures
-    c.in-On.is c.find_characteristic-x.ensures
+    c.in-Some.is c.find_characteristic-x.ensures
     c.check_one.ensures
 
 pub returns-else-running : goal.returns-else-running
