@@ -15,21 +15,27 @@ use state::Counters;
 fn placed_fits(p: Placed, size: usize) -> bool
     ensures { result ≡ placed_fits size p }
 {
-    state_rules::step_fits(p.step, p.len)
-        && (!state_kinds::carries(p.step) || (p.len <= size && p.place <= size - p.len))
+    let step = p.step;
+    let len = p.len;
+    let place = p.place;
+    if !state_rules::step_fits(step, len) {
+        return false;
+    }
+    if !state_kinds::carries(step) {
+        return true;
+    }
+    if size < len {
+        return false;
+    }
+    place <= size - len
 }
 
 fn all_fit(steps: [Placed; 64], count: usize, size: usize) -> bool
     requires { count ≤ most_steps }
     ensures { result ≡ all (placed_fits size) (take count steps) }
 {
-<<<<<<< HEAD
     for p in &steps[..count] {
         if !placed_fits(*p, size) {
-=======
-    for i in 0..count {
-        if !placed_fits(steps[i], size) {
->>>>>>> 9f8cdd1 (Script crates in today's forms: for-loops, wildcard arms, struct updates, what is awaited as an Option)
             return false;
         }
     }
