@@ -14,5 +14,5 @@ pub struct Span {
 pub fn is_inside(len: usize, at: usize, n: usize) -> bool
     ensures { result ≡ leb (at + n) len }
 {
-    if n <= len { at <= len - n } else { false }
+    n <= len && at <= len - n
 }

@@ -7,12 +7,12 @@ ghost use Rattle.std.specs.Prelude.{◌≡◌, ◌/◌, ◌%◌};
 pub fn lo(v: u16) -> u8
     ensures { result ≡ v % 256 }
 {
-    (v % 256) as u8
+    v.to_le_bytes()[0]
 }
 
 // The more significant byte of a number.
 pub fn hi(v: u16) -> u8
     ensures { result ≡ v / 256 % 256 }
 {
-    (v / 256) as u8
+    v.to_le_bytes()[1]
 }

@@ -5,20 +5,17 @@ ghost use Rattle.std.specs.Prelude.{◌≡◌};
 ghost use Rattle.time.specs.Clock.{later, deadline, att_deadline, too_late};
 
 // A wait that a step names.
-#[derive(Clone, Copy)]
+#[derive(Clone, Copy, PartialEq, Eq, PartialOrd, Ord)]
 pub struct Millis(pub u32);
 
 // A moment of the clock, or a span of it.
-#[derive(Clone, Copy)]
+#[derive(Clone, Copy, PartialEq, Eq, PartialOrd, Ord)]
 pub struct Micros(pub u64);
 
 const MICROS_PER_MILLI: u64 = 1_000;
 
-// The largest number that a clock can hold.
-const LARGEST: u64 = 18_446_744_073_709_551_615;
-
 // The latest clock that a call takes: 2^62 µs.
-pub const LATEST: Micros = Micros(4_611_686_018_427_387_904);
+pub const LATEST: Micros = Micros(1 << 62);
 
 // The ATT transaction timeout: 30 seconds.
 pub const ATT_TIMEOUT: Micros = Micros(30_000_000);
@@ -27,14 +24,7 @@ pub const ATT_TIMEOUT: Micros = Micros(30_000_000);
 pub fn later(now: Micros, by: Micros) -> Micros
     ensures { result ≡ later now by }
 {
-    let start = now.0;
-    let span = by.0;
-    if span <= LARGEST - start {
-        let sum = start + span;
-        Micros(sum)
-    } else {
-        Micros(LARGEST)
-    }
+    Micros(now.0.saturating_add(by.0))
 }
 
 // The moment at which a wait that begins now runs out.
@@ -55,5 +45,5 @@ pub fn att_deadline(now: Micros) -> Micros
 pub fn too_late(now: Micros) -> bool
     ensures { result ≡ too_late now }
 {
-    LATEST.0 < now.0
+    LATEST < now
 }

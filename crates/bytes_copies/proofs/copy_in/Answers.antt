@@ -1,13 +1,17 @@
+use Rattle.std.proofs.Common.{sym}
 use Rattle.bytes_base.proofs.SpliceLaws.{splice-off, splice-void}
-use mathlib.Core.Path.{sym}
 use Rattle.bytes_base.proofs.TestLaws.{fits-yes, fits-no}
+use Rattle.bytes_copies.proofs.Parts.{written}
 use Rattle.bytes_copies.proofs.copy_in.Goals as goal
+use Rattle.bytes_copies.proofs.copy_in.Goals.{else-is_inside-via-then-is_inside+else-is_inside-2, else-is_inside-via-else-is_inside}
 
-pub copy_known-requires : goal.copy_known-requires
-copy_known-requires c = record { n_in_bounds = fits-yes _ _ _ _ c.is_inside.ensures c.if-is_inside.true; n_in_bounds_2 = fits-yes _ _ _ _ c.is_inside-then-is_inside.ensures c.if-is_inside-2.true }
-
-pub returns-else-is_inside-2 : goal.returns-else-is_inside-2
-returns-else-is_inside-2 c = sym (splice-void _ _ _ _ _ (fits-yes _ _ _ _ c.is_inside.ensures c.if-is_inside.true) (fits-no _ _ _ _ c.is_inside-then-is_inside.ensures c.if-is_inside-2.false))
+pub returns-then-is_inside-2 : goal.returns-then-is_inside-2
+returns-then-is_inside-2 c =
+    let a = c.args in
+    let h = fits-yes _ _ _ _ c.is_inside.ensures c.if-is_inside.true in
+    let k = fits-yes _ _ _ _ c.is_inside-then-is_inside.ensures c.if-is_inside-2.true in
+    written a.dst.now a.at a.src.now a.from a.n c.copy_from_slice.new.self h k c.copy_from_slice.ensures.after
 
 pub returns-else-is_inside : goal.returns-else-is_inside
-returns-else-is_inside c = sym (splice-off _ _ _ _ _ (fits-no _ _ _ _ c.is_inside.ensures c.if-is_inside.false))
+returns-else-is_inside c =
+    elim c.else-is_inside.branch [ else-is_inside-via-then-is_inside+else-is_inside-2 w ↦ sym (splice-void _ _ _ _ _ (fits-yes _ _ _ _ c.is_inside.ensures w.if-is_inside.true) (fits-no _ _ _ _ w.is_inside-then-is_inside.ensures w.if-is_inside-2.false)) | else-is_inside-via-else-is_inside w ↦ sym (splice-off _ _ _ _ _ (fits-no _ _ _ _ c.is_inside.ensures w.if-is_inside.false)) ]

@@ -1,10 +1,11 @@
-use Rattle.bytes_base.proofs.TestLaws.{fits-yes, fits-no}
-use Rattle.bytes_base.proofs.ByteLaws.{le_at-off}
-use mathlib.Core.Path.{sym}
+use Rattle.std.proofs.Common.{◌∙◌}
+use Rattle.bytes_numbers.proofs.Numbers.{le-two, there, not-there}
 use Rattle.bytes_numbers.proofs.le16.Goals as goal
 
-pub two-v-requires : goal.two-v-requires
-two-v-requires c = fits-yes _ _ _ _ c.is_inside.ensures c.if-is_inside.true
+pub returns-in-Some : goal.returns-in-Some
+returns-in-Some c =
+    let t = there 2 c.args.s.now c.args.at c.in-Some.bytes c.in-Some.ensures in
+    c.from_le_bytes.ensures ∙ le-two c.in-Some.bytes t.0 ∙ t.1
 
-pub returns : goal.returns
-returns c = sym (le_at-off 2 _ _ (fits-no _ _ _ _ c.is_inside.ensures c.if-is_inside.false))
+pub returns-in-None : goal.returns-in-None
+returns-in-None c = not-there 2 c.args.s.now c.args.at c.in-None.ensures
