@@ -3,17 +3,7 @@ use Prim.Native.Nat.{ℕ}
 use mathlib.Core.Path.{◌≡◌, refl}
 use lib.ListN.{length}
 use Rattle.bytes_base.specs.Bytes.{le_bytes}
-use Rattle.att_pdu.specs.Pdu.{
-  att_error,
-  exchange_mtu_req,
-  exchange_mtu_rsp,
-  find_information_req,
-  read_by_type_req,
-  read_req,
-  read_by_group_type_req,
-  write_req,
-  write_cmd,
-}
+use Rattle.att_pdu.specs.Pdu.{att_error, exchange_mtu_req, exchange_mtu_rsp, find_information_req, read_by_type_req, read_req, read_by_group_type_req}
 
 pub length-att_error : (request handle code : ℕ) → length (att_error request handle code) ≡ 5
 unfolding le_bytes

@@ -25,19 +25,15 @@ pub const LAST_HANDLE: u16 = 0xFFFF;
 fn with_number(opcode: u8, a: u16) -> [u8; 3]
     ensures { result ≡ opcode ∷ le_bytes 2 a }
 {
-    [opcode, bytes_halves::lo(a), bytes_halves::hi(a)]
+    let [lo, hi] = a.to_le_bytes();
+    [opcode, lo, hi]
 }
 
 pub fn att_error(request: u8, handle: u16, code: u8) -> [u8; 5]
     ensures { result ≡ att_error request handle code }
 {
-    [
-        op::ERROR_RSP,
-        request,
-        bytes_halves::lo(handle),
-        bytes_halves::hi(handle),
-        code,
-    ]
+    let [lo, hi] = handle.to_le_bytes();
+    [op::ERROR_RSP, request, lo, hi, code]
 }
 
 pub fn exchange_mtu_req(mtu: u16) -> [u8; 3]

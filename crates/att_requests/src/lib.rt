@@ -11,28 +11,18 @@ use att_pdu::op;
 fn with_range(opcode: u8, start: u16, end: u16) -> [u8; 5]
     ensures { result ≡ opcode ∷ (le_bytes 2 start ++ le_bytes 2 end) }
 {
-    [
-        opcode,
-        bytes_halves::lo(start),
-        bytes_halves::hi(start),
-        bytes_halves::lo(end),
-        bytes_halves::hi(end),
-    ]
+    let [start_lo, start_hi] = start.to_le_bytes();
+    let [end_lo, end_hi] = end.to_le_bytes();
+    [opcode, start_lo, start_hi, end_lo, end_hi]
 }
 
 // An opcode, a range of handles and a type.
 fn with_type(opcode: u8, start: u16, end: u16, uuid16: u16) -> [u8; 7]
     ensures { result ≡ opcode ∷ (le_bytes 2 start ++ (le_bytes 2 end ++ le_bytes 2 uuid16)) }
 {
-    [
-        opcode,
-        bytes_halves::lo(start),
-        bytes_halves::hi(start),
-        bytes_halves::lo(end),
-        bytes_halves::hi(end),
-        bytes_halves::lo(uuid16),
-        bytes_halves::hi(uuid16),
-    ]
+    let [opcode, start_lo, start_hi, end_lo, end_hi] = with_range(opcode, start, end);
+    let [type_lo, type_hi] = uuid16.to_le_bytes();
+    [opcode, start_lo, start_hi, end_lo, end_hi, type_lo, type_hi]
 }
 
 pub fn find_information_req(start: u16, end: u16) -> [u8; 5]

@@ -21,28 +21,16 @@ pub const ATT_HEAD: usize = 3;
 fn header(n: u16, channel: u16) -> [u8; 4]
     ensures { result ≡ le_bytes 2 n ++ le_bytes 2 channel }
 {
-    [
-        bytes_halves::lo(n),
-        bytes_halves::hi(n),
-        bytes_halves::lo(channel),
-        bytes_halves::hi(channel),
-    ]
+    let [n_lo, n_hi] = n.to_le_bytes();
+    let [channel_lo, channel_hi] = channel.to_le_bytes();
+    [n_lo, n_hi, channel_lo, channel_hi]
 }
 
 // Whether an output of len bytes can take the frame of n bytes of payload, from at on.
 fn has_room(len: usize, at: usize, n: usize) -> bool
     ensures { result ≡ (leb n 65535 && leb (at + (4 + n)) len) }
 {
-    if n <= LONGEST {
-        let whole = HEADER + n;
-        if whole <= len {
-            at <= len - whole
-        } else {
-            false
-        }
-    } else {
-        false
-    }
+    n <= LONGEST && HEADER + n <= len && at <= len - (HEADER + n)
 }
 
 // Writes what stands before a value and n bytes of the value from from on into out, from at on, and answers how many bytes these are.
@@ -76,32 +64,17 @@ pub fn l2cap(out: &mut [u8], at: usize, channel: u16, payload: &[u8]) -> usize
 fn att_head(n: u16, opcode: u8, handle: u16) -> [u8; 7]
     ensures { result ≡ (le_bytes 2 n ++ le_bytes 2 cid_att) ++ (opcode ∷ le_bytes 2 handle) }
 {
-    [
-        bytes_halves::lo(n),
-        bytes_halves::hi(n),
-        bytes_halves::lo(cid::ATT),
-        bytes_halves::hi(cid::ATT),
-        opcode,
-        bytes_halves::lo(handle),
-        bytes_halves::hi(handle),
-    ]
+    let [n_lo, n_hi, channel_lo, channel_hi] = header(n, cid::ATT);
+    let [lo, hi] = handle.to_le_bytes();
+    [n_lo, n_hi, channel_lo, channel_hi, opcode, lo, hi]
 }
 
 // Whether n bytes from from on are there out of have, and an output of len bytes can take the frame of a PDU with that value, from at on.
 fn has_att_room(len: usize, at: usize, have: usize, from: usize, n: usize) -> bool
     ensures { result ≡ (leb (from + n) have && (leb (3 + n) 65535 && leb (at + (4 + (3 + n))) len)) }
 {
-    if have < n {
-        return false;
-    }
-    if have - n < from {
-        return false;
-    }
-    // A longer value is told first, so that the sum below fits.
-    if LONGEST < n {
-        return false;
-    }
-    has_room(len, at, ATT_HEAD + n)
+    // A longer value is told before the sum, so that this fits.
+    n <= have && from <= have - n && n <= LONGEST && has_room(len, at, ATT_HEAD + n)
 }
 
 // Writes the frame of an ATT PDU into out, from at on: an opcode, a handle, and n bytes of value from from on.

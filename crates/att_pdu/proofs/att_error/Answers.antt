@@ -3,4 +3,4 @@ use Rattle.att_pdu.proofs.att_error.Goals as goal
 
 pub returns : goal.returns
 unfolding le_bytes
-returns c = rw (c.lo.ensures, c.hi.ensures)
+returns c = rw c.to_le_bytes.ensures

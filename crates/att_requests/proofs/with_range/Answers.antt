@@ -3,4 +3,4 @@ use Rattle.att_requests.proofs.with_range.Goals as goal
 
 pub returns : goal.returns
 unfolding le_bytes
-returns c = rw (c.lo.ensures, c.hi.ensures, c.lo-2.ensures, c.hi-2.ensures)
+returns c = rw (c.to_le_bytes.ensures, c.to_le_bytes-2.ensures)
