@@ -63,9 +63,9 @@ fn equal_at(data: &[u8], at: usize, width: usize, uuid: Uuid) -> bool
         return Uuid::from_128(data, at) == uuid;
     }
     if width == WIDTH_32 {
-        return Uuid::from_u32(bytes_numbers::le32(data, at)) == uuid;
+        return Uuid::from(bytes_numbers::le32(data, at)) == uuid;
     }
-    Uuid::from_u16(bytes_numbers::le16(data, at)) == uuid
+    Uuid::from(bytes_numbers::le16(data, at)) == uuid
 }
 
 // What is known behind a list of this kind that does not have the service. Each width has an even kind for an incomplete list.

@@ -70,7 +70,7 @@ fn name_one(t: Characteristics, s: &[u8], a: usize, b: usize) -> Characteristics
     let h = bytes_numbers::le16(s, a);
     match Uuid::from_att(&s[a + TYPE_AT..b]) {
         Some(u) => {
-            if u == Uuid::from_u16(CCCD) {
+            if u == Uuid::from(CCCD) {
                 return give_to(t, h);
             }
             t

@@ -29,7 +29,7 @@ fn head(what: &[u8], data: &[u8], response: &[u8]) {
         tool_say::text(b", then scan response");
         tool_say::bytes(response);
     }
-    verdict(adv_presence::service_presence(data, response, Uuid::from_u16(BATTERY)));
+    verdict(adv_presence::service_presence(data, response, Uuid::from(BATTERY)));
 }
 
 pub fn heads() {

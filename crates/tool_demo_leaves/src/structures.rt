@@ -42,7 +42,7 @@ fn tell_kind(kind: u8) {
 
 fn uuid_of(entry: &[u8]) -> Option<Uuid> {
     if entry.len() == 4 {
-        return Some(Uuid::from_u32(bytes_numbers::le32(entry, 0)));
+        return Some(Uuid::from(bytes_numbers::le32(entry, 0)));
     }
     Uuid::from_att(entry)
 }

@@ -94,7 +94,7 @@ fn tell_body(s: State, store: &[u8], i: usize, service: u16) {
     tool_say::hex(service as u64, 4);
     tell_bytes(
         b" is named in ",
-        radio_views::report_body(s.core, &tables, store, i, Uuid::from_u16(service)),
+        radio_views::report_body(s.core, &tables, store, i, Uuid::from(service)),
     );
 }
 

@@ -6,18 +6,19 @@ use mathlib.Core.Logic.{◌⊎◌, inl, inr}
 use mathlib.Core.List.{List, [], ◌∷◌, ◌++◌, append-nil}
 use native.Mathlib.Omega.{arith}
 use native.Mathlib.Numerals.{add-one}
-use native.Mathlib.Nat.{pow-suc, pow-le-pow_right, one-le-pow, mul-le-mul_right, mul_assoc, mul_comm, lt_of_mul-lt-mul_left, lt_of_lt_of_le, lt_of_le_of_lt, le-add_left}
+use native.Mathlib.Nat.{pow-suc, pow-le-pow_right, mul-le-mul_right, mul_assoc, mul_comm, lt_of_mul-lt-mul_left, lt_of_lt_of_le, lt_of_le_of_lt, le-add_left}
 use lib.ListN.{length, drop, take, get_or, set, length-append, drop_of_length-le}
-use lib.Seq.{drop-cons, take_all, take-suc-set, append_snoc, length-take-le, slice, slice-cons, slice_empty, length-slice}
+use lib.Seq.{drop-cons, take_all, take-suc-set, append_snoc, length-take-le}
 use lib.Dec.{leb, ltb, eqb}
-use borrow.Author.Tests.{lt-ltb, le-ltb, ltb-true, leb-true, leb-false, le-leb, lt-leb, eq-eqb, ne_eqb}
+use borrow.Author.Tests.{lt-ltb, ltb-true, le-leb, lt-leb, eq-eqb, ne_eqb}
 use Rattle.bytes_base.specs.Choice.{pick, within}
 use Rattle.uuid_value.specs.Value.{short_of}
 use Rattle.uuid_value.specs.ValueLaws.{halves}
 use Rattle.uuid_value.specs.declared.Uuid.{Uuid}
 use Rattle.std.specs.Prelude.{Some, None}
 use Rattle.uuid_text.specs.Text.{digit_of, all_digits, value_of, unsigned, is_number, number_of, pairs, all_numbers, bytes_of, short_uuid, long_uuid, plain, parse_uuid}
-use Rattle.uuid_text.specs.Parts.{number_or, Stripped}
+use Rattle.uuid_text.specs.Parts.{digit_in, number_in, Stripped}
+use Rattle.uuid_text.specs.declared.Digits.{Digits}
 
 -- ---- digit
 
@@ -45,30 +46,66 @@ module _ (b : ℕ) where
   unfolding digit_of
   no_digit p q r = rw (outside 0x30 0x39 b p, outside 0x41 0x46 b q, outside 0x61 0x66 b r)
 
+module _ (b d : ℕ) where
+  pub a-digit : d ≡ digit_of b → d < 16 → Some d ≡ digit_in b
+  unfolding digit_in
+  a-digit e l = rw (← e, lt-ltb d 16 l)
+
+  digit-by : (t : Bool) → ltb (digit_of b) 16 ≡ t → Some d ≡ pick t (Some (digit_of b)) None → (d ≡ digit_of b) × (d < 16)
+  digit-by true e r =
+      let z : d ≡ digit_of b = cc in
+      (z, rw z (ltb-true (digit_of b) 16 e))
+  digit-by false e r = absurd cc
+
+  pub digit-told : Some d ≡ digit_in b → (d ≡ digit_of b) × (d < 16)
+  unfolding digit_in
+  digit-told r = digit-by (ltb (digit_of b) 16) refl r
+
+module _ (b : ℕ) where
+  pub not-digit : 16 ≡ digit_of b → None ≡ digit_in b
+  unfolding digit_in
+  not-digit e = rw (← e)
+
+  none-by : (t : Bool) → ltb (digit_of b) 16 ≡ t → None ≡ pick t (Some (digit_of b)) None → ltb (digit_of b) 16 ≡ false
+  none-by true e r = absurd cc
+  none-by false e r = e
+
+  pub none-told : None ≡ digit_in b → ltb (digit_of b) 16 ≡ false
+  unfolding digit_in
+  none-told r = none-by (ltb (digit_of b) 16) refl r
+
+-- ---- unsigned
+
+pub after_plus : (s : List ℕ) → 0 < length s → get_or s 0 0 ≡ 0x2B → drop 1 s ≡ unsigned s
+unfolding unsigned
+after_plus [] k p = absurd (omega arith)
+after_plus (b ∷ l) k p = rw (eq-eqb b 0x2B p)
+
+pub no_plus : (s : List ℕ) → (get_or s 0 0 ≡ 0x2B → ⊥) → s ≡ unsigned s
+unfolding unsigned
+no_plus [] p = refl
+no_plus (b ∷ l) p = rw (ne_eqb b 0x2B p)
+
+pub empty : (s : List ℕ) → length s < 1 → s ≡ unsigned s
+unfolding unsigned
+empty [] p = refl
+empty (b ∷ l) p = absurd (omega arith)
+
 -- ---- number: from its first byte
 
-module _ (hex : List ℕ) (at end : ℕ) (h : at < end) (k : end ≤ length hex) where
-  after_plus : get_or hex at 0 ≡ 0x2B → slice (at + 1) end hex ≡ unsigned (slice at end hex)
-  unfolding unsigned
-  after_plus e = rw (slice-cons at end hex 0 h k, eq-eqb (get_or hex at 0) 0x2B e, add-one at)
+-- a digit more
+module _ (s : List ℕ) (i : ℕ) (h : i < length s) where
+  digit-good : digit_of (get_or s i 0) < 16 → all_digits (drop i s) ≡ all_digits (drop (i + 1) s)
+  unfolding all_digits
+  digit-good l = rw (drop-cons s i 0 h, lt-ltb (digit_of (get_or s i 0)) 16 l, add-one i)
 
-  no_plus : (get_or hex at 0 ≡ 0x2B → ⊥) → slice at end hex ≡ unsigned (slice at end hex)
-  unfolding unsigned
-  no_plus e = rw (slice-cons at end hex 0 h k, ne_eqb (get_or hex at 0) 0x2B e)
+  digit-bad : ltb (digit_of (get_or s i 0)) 16 ≡ false → all_digits (drop i s) ≡ false
+  unfolding all_digits
+  digit-bad e = rw (drop-cons s i 0 h, e)
 
-  -- a digit more
-  module _ (d : ℕ) (e : d ≡ digit_of (get_or hex at 0)) where
-    digit-good : d < 16 → all_digits (slice at end hex) ≡ all_digits (slice (at + 1) end hex)
-    unfolding all_digits
-    digit-good l = rw (slice-cons at end hex 0 h k, ← e, lt-ltb d 16 l, add-one at)
-
-    digit-bad : 16 ≤ d → all_digits (slice at end hex) ≡ false
-    unfolding all_digits
-    digit-bad l = rw (slice-cons at end hex 0 h k, ← e, le-ltb d 16 l)
-
-    digit_value : (v : ℕ) → value_of v (slice at end hex) ≡ value_of (16 * v + d) (slice (at + 1) end hex)
-    unfolding value_of
-    digit_value v = rw (slice-cons at end hex 0 h k, e, add-one at)
+  digit_value : (v : ℕ) → value_of v (drop i s) ≡ value_of (16 * v + digit_of (get_or s i 0)) (drop (i + 1) s)
+  unfolding value_of
+  digit_value v = rw (drop-cons s i 0 h, add-one i)
 
 -- what has been read stays small
 grown : (v d i : ℕ) → v < 16 ^ i → d < 16 → 16 * v + d < 16 ^ (i + 1)
@@ -86,60 +123,43 @@ some_left (b ∷ s) h = go (eqb b 0x2B)
     go true = omega arith
     go false = omega arith
 
-module _ (s : List ℕ) where
-  no_number : all_digits (unsigned s) ≡ false → 0x1_0000 ≡ number_or s
-  unfolding number_or
-  no_number e = rw (e, and-false (ltb 0 (length (unsigned s))))
+-- where the reading of digits stands: v has been read of the first i
+pub record Reading (s : List ℕ) (i v : ℕ) : Type 0 where
+  pub small : v < 16 ^ i
+  pub digits : all_digits (drop i s) ≡ all_digits s
+  pub value : value_of v (drop i s) ≡ value_of 0 s
 
-  a-number : (v : ℕ) → 2 ≤ length s → all_digits (unsigned s) ≡ true → v ≡ value_of 0 (unsigned s) → v ≡ number_or s
-  unfolding number_or
-  a-number v h e r = rw (e, lt-ltb 0 (length (unsigned s)) (some_left s h), r)
+pub start : (s : List ℕ) → Reading s 0 0
+start s = record { small = omega arith; digits = refl; value = refl }
 
--- where the reading of a number stands: v has been read of the bytes from at to i, a plus in front left out
-pub record Reading (hex : List ℕ) (at end i v : ℕ) : Type 0 where
-  pub from : at ≤ i
-  pub upto : i ≤ end
-  pub small : v < 16 ^ (i - at)
-  pub digits : all_digits (slice i end hex) ≡ all_digits (unsigned (slice at end hex))
-  pub value : value_of v (slice i end hex) ≡ value_of 0 (unsigned (slice at end hex))
+-- three digits and one more fill 16 bits
+pub small-reading : (s : List ℕ) (i v : ℕ) → Reading s i v → i ≤ 3 → v < 2 ^ 12
+small-reading s i v r h = small v i 3 r.small h
 
-start : (hex : List ℕ) (at end i : ℕ) → at ≤ i → i ≤ end → slice i end hex ≡ unsigned (slice at end hex) → Reading hex at end i 0
-start hex at end i h k e =
-    let z : 0 < 16 ^ (i - at) = one-le-pow (i - at) 16 (omega arith) in
-    record { from = h; upto = k; small = z; digits = ap all_digits e; value = ap (value_of 0) e }
+module _ (s : List ℕ) (i v : ℕ) (r : Reading s i v) (h : i < length s) where
+  pub digit-more : (d : ℕ) → Some d ≡ digit_in (get_or s i 0) → Reading s (i + 1) (16 * v + d)
+  digit-more d e =
+      let t = digit-told (get_or s i 0) d e in
+      let l : digit_of (get_or s i 0) < 16 = rw (← t.0) t.1 in
+      record {
+        small = grown v d i r.small t.1;
+        digits = sym (digit-good s i h l) ∙ r.digits;
+        value = rw t.0 (sym (digit_value s i h v) ∙ r.value);
+      }
 
-module _ (hex : List ℕ) (at end i : ℕ) (h : at < end) (k : end ≤ length hex) where
-  pub start-plus : get_or hex at 0 ≡ 0x2B → i ≡ at + 1 → Reading hex at end i 0
-  start-plus p e = start hex at end i (omega arith) (omega arith) (rw e (after_plus hex at end h k p))
+  pub digit-none : (text : List ℕ) → s ≡ unsigned text → None ≡ digit_in (get_or s i 0) → None ≡ number_in text
+  unfolding number_in
+  digit-none text u e =
+      let z : all_digits (unsigned text) ≡ false = rw (← u) (sym r.digits ∙ digit-bad s i h (none-told (get_or s i 0) e)) in
+      rw (z, and-false (ltb 0 (length (unsigned text))))
 
-  pub start-bare : (get_or hex at 0 ≡ 0x2B → ⊥) → i ≡ at → Reading hex at end i 0
-  start-bare p e = start hex at end i (omega arith) (omega arith) (rw e (no_plus hex at end h k p))
-
-  module _ (v d : ℕ) (r : Reading hex at end i v) (l : i < end) (e : d ≡ digit_of (get_or hex i 0)) where
-    pub digit-more : d < 16 → Reading hex at end (i + 1) (16 * v + d)
-    digit-more s =
-        let j : i + 1 - at ≡ i - at + 1 = omega (arith, r.from) in
-        record {
-          from = omega (arith, r.from);
-          upto = omega arith;
-          small = rw j (grown v d (i - at) r.small s);
-          digits = sym (digit-good hex i end l k d e s) ∙ r.digits;
-          value = sym (digit_value hex i end l k d e v) ∙ r.value;
-        }
-
-    pub digit-none : 16 ≤ d → 0x1_0000 ≡ number_or (slice at end hex)
-    digit-none s = no_number (slice at end hex) (sym r.digits ∙ digit-bad hex i end l k d e s)
-
-  pub digits-end : (v : ℕ) → Reading hex at end i v → end ≤ i → 2 ≤ end - at → v ≡ number_or (slice at end hex)
-  unfolding all_digits value_of
-  digits-end v r l n =
-      let j : i ≡ end = omega (arith, r.upto) in
-      let z : slice i end hex ≡ [] = ap (λ (x : ℕ). slice x end hex) j ∙ slice_empty end hex in
-      a-number (slice at end hex) v (rw (length-slice at end hex k) n) (sym r.digits ∙ ap all_digits z) (sym (ap (value_of v) z) ∙ r.value)
-
--- four digits fill 16 bits
-pub small-reading : (hex : List ℕ) (at end i v : ℕ) → Reading hex at end i v → i - at ≤ 4 → v < 2 ^ 16
-small-reading hex at end i v r h = small v (i - at) 4 r.small h
+pub digits-end : (s : List ℕ) (i v : ℕ) → Reading s i v → length s ≤ i → (text : List ℕ) → s ≡ unsigned text → 2 ≤ length text → Some v ≡ number_in text
+unfolding number_in all_digits value_of
+digits-end s i v r h text u n =
+    let d : drop i s ≡ [] = drop_of_length-le s {i = i} h in
+    let z : all_digits (unsigned text) ≡ true = rw (← u) (sym r.digits ∙ ap all_digits d) in
+    let w : v ≡ value_of 0 (unsigned text) = rw (← u) (ap (value_of v) (sym d) ∙ r.value) in
+    rw (z, lt-ltb 0 (length (unsigned text)) (some_left text n)) (ap Some w)
 
 -- ---- what a number tells
 
@@ -156,7 +176,7 @@ value-bound v (b ∷ s) e =
     let m : (16 * v + digit_of b + 1) * 16 ^ length s ≤ 16 * (v + 1) * 16 ^ length s = mul-le-mul_right (16 ^ length s) (omega arith) in
     rw (pow-suc 16 (length s), ← scaled (v + 1) (16 ^ length s)) (lt_of_lt_of_le r m)
 
-unsigned-length : (s : List ℕ) → length (unsigned s) ≤ length s
+pub unsigned-length : (s : List ℕ) → length (unsigned s) ≤ length s
 unfolding unsigned
 unsigned-length [] = omega arith
 unsigned-length (b ∷ s) = go (eqb b 0x2B)
@@ -177,63 +197,57 @@ record Told (s : List ℕ) (n v : ℕ) : Type 0 where
   pub value : v ≡ number_of s
   pub small : v < 16 ^ n
 
-module _ (s : List ℕ) (n v : ℕ) (h : length s ≤ n) (e : v ≡ number_or s) where
-  told-by : (t : Bool) → is_number s ≡ t → v ≡ pick t (number_of s) 0x1_0000 → (v ≡ 0x1_0000 → ⊥) → Told s n v
-  told-by true g r p = record { good = g; value = r; small = rw (sym r) at (number_bound s n h g) }
-  told-by false g r p = absurd (p r)
+module _ (s : List ℕ) (n v : ℕ) (h : length s ≤ n) where
+  told-by : (t : Bool) → is_number s ≡ t → Some v ≡ pick t (Some (number_of s)) None → Told s n v
+  told-by true g r =
+      let z : v ≡ number_of s = cc in
+      record { good = g; value = z; small = rw (sym z) at (number_bound s n h g) }
+  told-by false g r = absurd cc
 
-  told : (v ≡ 0x1_0000 → ⊥) → Told s n v
-  unfolding number_or
-  told p = told-by (is_number s) refl e p
+  told : Some v ≡ number_in s → Told s n v
+  unfolding number_in
+  told e = told-by (is_number s) refl e
 
-  none-by : (t : Bool) → is_number s ≡ t → v ≡ pick t (number_of s) 0x1_0000 → n ≤ 4 → v ≡ 0x1_0000 → is_number s ≡ false
-  none-by true g r k p =
-      let b : number_of s < 16 ^ 4 = small (number_of s) n 4 (number_bound s n h g) k in
-      absurd (omega arith)
-  none-by false g r k p = g
+module _ (s : List ℕ) where
+  no-by : (t : Bool) → is_number s ≡ t → None ≡ pick t (Some (number_of s)) None → is_number s ≡ false
+  no-by true g r = absurd cc
+  no-by false g r = g
 
-  none : n ≤ 4 → v ≡ 0x1_0000 → is_number s ≡ false
-  unfolding number_or
-  none k p = none-by (is_number s) refl e k p
+  none : None ≡ number_in s → is_number s ≡ false
+  unfolding number_in
+  none e = no-by (is_number s) refl e
 
 -- ---- short
 
-module _ (hex : List ℕ) (v : ℕ) (h : 4 ≤ length hex) (e : v ≡ number_or (take 4 hex)) where
-  four : length (take 4 hex) ≤ 4
-  four = omega (arith, length-take-le 4 hex h)
+pub short_none : (hex : List ℕ) → None ≡ number_in hex → None ≡ short_uuid hex
+unfolding short_uuid
+short_none hex e = rw (none hex e)
 
-  pub short_none : v ≡ 0x1_0000 → None ≡ short_uuid (take 4 hex)
-  unfolding short_uuid
-  short_none p = rw (none (take 4 hex) 4 v four e (omega arith) p)
-
-  pub short-fits : (v ≡ 0x1_0000 → ⊥) → v < 2 ^ 16
-  short-fits p = (told (take 4 hex) 4 v four e p).small
-
-  pub short-some : (u : Uuid) → (v ≡ 0x1_0000 → ⊥) → u ≡ short_of v → Some u ≡ short_uuid (take 4 hex)
-  unfolding short_uuid
-  short-some u p r =
-      let t = told (take 4 hex) 4 v four e p in
-      rw t.good (ap Some (r ∙ ap short_of t.value))
+pub short-some : (hex : List ℕ) (v : ℕ) (u : Uuid) → length hex ≡ 4 → Some v ≡ number_in hex → u ≡ short_of v → Some u ≡ short_uuid hex
+unfolding short_uuid
+short-some hex v u h e r =
+    let t = told hex 4 v (omega arith) e in
+    rw t.good (ap Some (r ∙ ap short_of t.value))
 
 -- ---- long: a pair more
 
 module _ (s : List ℕ) (i : ℕ) (h : i + 2 ≤ length s) where
-  pair-at : slice i (i + 2) s ≡ get_or s i 0 ∷ get_or s (i + 1) 0 ∷ []
+  pair-at : take (i + 2 - i) (drop i s) ≡ get_or s i 0 ∷ get_or s (i + 1) 0 ∷ []
   pair-at =
-      let e : i + 2 ≡ suc (suc i) = omega arith in
-      rw (e, add-one i) (slice-cons i (suc (suc i)) s 0 (omega arith) (omega arith) ∙ ap (λ (l : List ℕ). get_or s i 0 ∷ l) (slice-cons (suc i) (suc (suc i)) s 0 (omega arith) (omega arith) ∙ ap (λ (l : List ℕ). get_or s (suc i) 0 ∷ l) (slice_empty (suc (suc i)) s)))
+      let e : i + 2 - i ≡ 2 = omega arith in
+      rw (e, add-one i, drop-cons s i 0 (omega arith), drop-cons s (suc i) 0 (omega arith))
 
-  pairs-here : pairs (drop i s) ≡ slice i (i + 2) s ∷ pairs (drop (i + 2) s)
+  pairs-here : pairs (drop i s) ≡ take (i + 2 - i) (drop i s) ∷ pairs (drop (i + 2) s)
   unfolding pairs
   pairs-here =
       let e : i + 2 ≡ suc (suc i) = omega arith in
       rw (pair-at, e, add-one i, drop-cons s i 0 (omega arith), drop-cons s (suc i) 0 (omega arith))
 
-  pair-bad : is_number (slice i (i + 2) s) ≡ false → all_numbers (pairs (drop i s)) ≡ false
+  pair-bad : is_number (take (i + 2 - i) (drop i s)) ≡ false → all_numbers (pairs (drop i s)) ≡ false
   unfolding all_numbers
   pair-bad e = rw (pairs-here, e)
 
-  module _ (v : ℕ) (t : Told (slice i (i + 2) s) 2 v) where
+  module _ (v : ℕ) (t : Told (take (i + 2 - i) (drop i s)) 2 v) where
     pair-good : all_numbers (pairs (drop i s)) ≡ all_numbers (pairs (drop (i + 2) s))
     unfolding all_numbers
     pair-good = rw (pairs-here, t.good)
@@ -279,23 +293,23 @@ module _ (hex : List ℕ) (low high i v : ℕ) (h : length hex ≡ 32) (w : Half
       let n : bytes_of 0 (pairs hex) ≡ low + 2 ^ 64 * high = sym w.value ∙ ap (λ (x : List ℕ). bytes_of (low + 2 ^ 64 * high) (pairs x)) d in
       rw g (ap Some (halves (bytes_of 0 (pairs hex)) low high w.half n))
 
-  module _ (l : i < 32) (e : v ≡ number_or (slice i (i + 2) hex)) where
+  module _ (l : i < 32) where
     fits : i + 2 ≤ length hex
     fits = omega (arith, w.even)
 
-    two : length (slice i (i + 2) hex) ≤ 2
-    two = omega (arith, length-slice i (i + 2) hex fits)
+    two : length (take (i + 2 - i) (drop i hex)) ≤ 2
+    two = omega (arith, ap length (pair-at hex i fits))
 
-    pub pair-none : v ≡ 0x1_0000 → None ≡ long_uuid hex
+    pub pair-none : None ≡ number_in (take (i + 2 - i) (drop i hex)) → None ≡ long_uuid hex
     unfolding long_uuid
-    pair-none p = rw (sym w.good ∙ pair-bad hex i fits (none (slice i (i + 2) hex) 2 v two e (omega arith) p))
+    pair-none e = rw (sym w.good ∙ pair-bad hex i fits (none (take (i + 2 - i) (drop i hex)) e))
 
-    pub pair_small : (v ≡ 0x1_0000 → ⊥) → v < 256
-    pair_small p = (told (slice i (i + 2) hex) 2 v two e p).small
+    pub pair_small : Some v ≡ number_in (take (i + 2 - i) (drop i hex)) → v < 256
+    pair_small e = (told (take (i + 2 - i) (drop i hex)) 2 v two e).small
 
-    pub pair-more : (v ≡ 0x1_0000 → ⊥) → Halfway hex (256 * (low % 2 ^ 56) + v) (256 * high + low / 2 ^ 56) (i + 2)
-    pair-more p =
-        let t = told (slice i (i + 2) hex) 2 v two e p in
+    pub pair-more : Some v ≡ number_in (take (i + 2 - i) (drop i hex)) → Halfway hex (256 * (low % 2 ^ 56) + v) (256 * high + low / 2 ^ 56) (i + 2)
+    pair-more e =
+        let t = told (take (i + 2 - i) (drop i hex)) 2 v two e in
         record {
           upto = omega (arith, w.even);
           even = omega (arith, w.even);
@@ -321,47 +335,44 @@ unfolding plain
 kept-none hex s n i q h = rw (drop-cons s i 0 q, eq-eqb (get_or s i 0) 0x2D h, add-one i)
 
 -- at the end of the text
-pub kept-all : (hex s : List ℕ) (n i : ℕ) → length s ≤ i → n ≤ 32 → kept hex n s i ≡ plain s → Stripped s n hex
+pub kept-all : (hex s : List ℕ) (n i : ℕ) → length s ≤ i → n ≤ 32 → kept hex n s i ≡ plain s → Stripped s (Some (record { len = n; hex = hex }))
 unfolding plain
 kept-all hex s n i h p e =
-    let t : kept hex n s i ≡ take n hex = rw (drop_of_length-le s h) (append-nil (take n hex)) in
-    record { whole = λ _. sym e ∙ t; more = λ q. omega arith }
+    let t : kept hex n s i ≡ take n hex = rw (drop_of_length-le s {i = i} h) (append-nil (take n hex)) in
+    (p, sym e ∙ t)
 
 -- a byte too many
-pub kept-over : (hex s : List ℕ) (n i : ℕ) → n ≡ 32 → length hex ≡ 32 → i < length s → (get_or s i 0 ≡ 0x2D → ⊥) → kept hex n s i ≡ plain s → Stripped s 33 hex
+pub kept-over : (hex s : List ℕ) (n i : ℕ) → n ≡ 32 → length hex ≡ 32 → i < length s → (get_or s i 0 ≡ 0x2D → ⊥) → kept hex n s i ≡ plain s → Stripped s None
 unfolding plain
 kept-over hex s n i z p q h e =
     let l : length (kept hex n s i) ≡ 32 + suc (length (plain (drop (suc i) s)))
     = rw (drop-cons s i 0 q, ne_eqb (get_or s i 0) 0x2D h, length-append, length-take-le n hex (omega arith), z) in
-    record { whole = λ k. absurd (omega arith); more = λ _. omega (arith, ap length e) }
+    omega (arith, ap length e)
 
 -- ---- parse
 
-module _ (s hex : List ℕ) (n : ℕ) (h : length hex ≡ 32) (t : Stripped s n hex) where
-  counted : n ≤ 32 → length (plain s) ≡ n
-  counted k = ap length (t.whole k) ∙ length-take-le n hex (omega arith)
+pub parse-more : (s : List ℕ) → 32 < length (plain s) → None ≡ parse_uuid s
+unfolding parse_uuid
+parse-more s h = rw (ne_eqb (length (plain s)) 4 (λ e. omega arith), ne_eqb (length (plain s)) 32 (λ e. omega arith))
 
-  pub parse-short : n ≡ 4 → parse_uuid s ≡ short_uuid (take 4 hex)
+module _ (s : List ℕ) (d : Digits) (h : length d.hex ≡ 32) (t : Stripped s (Some d)) where
+  counted : length (plain s) ≡ d.len
+  counted = ap length t.1 ∙ length-take-le d.len d.hex (omega (arith, t.0))
+
+  pub parse-short : d.len ≡ 4 → short_uuid (take 4 d.hex) ≡ parse_uuid s
   unfolding parse_uuid
-  parse-short e = rw (counted (omega arith), e) (ap short_uuid (rw e at (t.whole (omega arith))))
+  parse-short e = rw (counted, e) (ap short_uuid (sym (rw e at t.1)))
 
-  pub parse-long : n ≡ 32 → length s ≡ 36 → parse_uuid s ≡ long_uuid hex
+  pub parse-long : d.len ≡ 32 → length s ≡ 36 → long_uuid d.hex ≡ parse_uuid s
   unfolding parse_uuid
   parse-long e l =
-      let w : plain s ≡ hex = rw e at (t.whole (omega arith)) ∙ take_all 32 hex (omega arith) in
-      rw (counted (omega arith), e, l) (ap long_uuid w)
+      let w : plain s ≡ d.hex = rw e at t.1 ∙ take_all 32 d.hex (omega arith) in
+      rw (counted, e, l) (ap long_uuid (sym w))
 
-  pub parse-other : n ≡ 32 → (length s ≡ 36 → ⊥) → parse_uuid s ≡ None
+  pub parse-other : d.len ≡ 32 → (length s ≡ 36 → ⊥) → None ≡ parse_uuid s
   unfolding parse_uuid
-  parse-other e l = rw (counted (omega arith), e, ne_eqb (length s) 36 l)
+  parse-other e l = rw (counted, e, ne_eqb (length s) 36 l)
 
-  not-count : (m : ℕ) → m ≤ 32 → (n ≡ m → ⊥) → length (plain s) ≡ m → ⊥
-  not-count m k p e = go (leb n 32) refl
-    where
-      go : (b : Bool) → leb n 32 ≡ b → ⊥
-      go true x = p (sym (counted (leb-true n 32 x)) ∙ e)
-      go false x = omega (arith, t.more (leb-false n 32 x))
-
-  pub parse-none : (n ≡ 4 → ⊥) → (n ≡ 32 → ⊥) → parse_uuid s ≡ None
+  pub parse-none : (d.len ≡ 4 → ⊥) → (d.len ≡ 32 → ⊥) → None ≡ parse_uuid s
   unfolding parse_uuid
-  parse-none p q = rw (ne_eqb (length (plain s)) 4 (not-count 4 (omega arith) p), ne_eqb (length (plain s)) 32 (not-count 32 (omega arith) q))
+  parse-none p q = rw (counted, ne_eqb d.len 4 p, ne_eqb d.len 32 q)

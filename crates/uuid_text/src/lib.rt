@@ -1,21 +1,15 @@
 // A UUID from its text.
 #![tactic(auto)]
 
-ghost use Rattle.std.specs.Prelude.{◌≡◌, ◌+◌, ◌≤◌, length, take};
-ghost use Rattle.std.proofs.Math.Seq.{slice};
-ghost use Rattle.uuid_text.specs.Text.{digit_of, short_uuid, long_uuid, parse_uuid};
-ghost use Rattle.uuid_text.specs.Parts.{number_or, Stripped};
+ghost use Rattle.std.specs.Prelude.{◌≡◌, ◌≤◌, length};
+ghost use Rattle.uuid_text.specs.Text.{unsigned, short_uuid, long_uuid, parse_uuid};
+ghost use Rattle.uuid_text.specs.Parts.{digit_in, number_in, Stripped};
 
 use uuid_value::Uuid;
 
 const HYPHEN: u8 = b'-';
 
 const PLUS: u8 = b'+';
-
-// What digit and number answer where there is none.
-const NO_DIGIT: u64 = 16;
-
-const NO_NUMBER: u64 = 0x1_0000;
 
 // Digits of a 16-bit UUID, of a byte, and of a whole UUID, and the bytes of its text with hyphens.
 const SHORT_DIGITS: usize = 4;
@@ -26,13 +20,13 @@ const LONG_DIGITS: usize = 32;
 
 const LONG_TEXT: usize = 36;
 
-// What is told of text with more digits than any UUID has.
-const TOO_MANY: usize = 33;
+const LONG_LEN: usize = 16;
 
 // The top byte of half a UUID stands at this place.
 const TOP_BYTE: u64 = 0x100_0000_0000_0000;
 
-// The text without hyphens: the first len of hex, or TOO_MANY.
+// The text without hyphens: the first len of hex.
+// Kept: a length beside its bytes, since the text is put together here and the library uses no heap.
 #[derive(Clone, Copy)]
 struct Digits {
     len: usize,
@@ -43,50 +37,41 @@ struct Digits {
 pub fn parse(text: &[u8]) -> Option<Uuid>
     ensures { result ≡ parse_uuid text.now }
 {
-    let digits = plain(text);
-    let n = digits.len;
-    let hex = digits.hex;
-    if n == SHORT_DIGITS {
-        return short(&hex[..]);
+    let Digits { len, hex } = plain(text)?;
+    if len == SHORT_DIGITS {
+        return short(&hex[..SHORT_DIGITS]);
     }
-    if n == LONG_DIGITS {
-        if text.len() == LONG_TEXT {
-            return long(&hex[..]);
-        }
+    if len == LONG_DIGITS && text.len() == LONG_TEXT {
+        return long(&hex);
     }
     None
 }
 
-fn plain(text: &[u8]) -> Digits
-    ensures { Stripped text.now result.len result.hex }
+// The text without hyphens, or none where it has more digits than any UUID.
+fn plain(text: &[u8]) -> Option<Digits>
+    ensures { Stripped text.now result }
 {
-    let mut hex = [0u8; 32];
-    let mut n: usize = 0;
-    let mut i: usize = 0;
-    while i < text.len() {
-        let b = text[i];
+    let mut hex = [0; LONG_DIGITS];
+    let mut len = 0;
+    for &b in text {
         if b != HYPHEN {
-            if n == LONG_DIGITS {
-                return Digits { len: TOO_MANY, hex };
+            if len == LONG_DIGITS {
+                return None;
             }
-            hex[n] = b;
-            n += 1;
+            hex[len] = b;
+            len += 1;
         }
-        i += 1;
     }
-    Digits { len: n, hex }
+    Some(Digits { len, hex })
 }
 
-// The UUID of the first 4 digits.
+// The UUID of 4 digits.
 fn short(hex: &[u8]) -> Option<Uuid>
-    requires { 4 ≤ length hex.now }
-    ensures { result ≡ short_uuid (take 4 hex.now) }
+    requires { length hex.now ≡ 4 }
+    ensures { result ≡ short_uuid hex.now }
 {
-    let v = number(hex, 0, SHORT_DIGITS);
-    if v == NO_NUMBER {
-        return None;
-    }
-    Some(Uuid::from_u16(v as u16))
+    let v = number(hex)?;
+    Some(Uuid::from(v))
 }
 
 // The UUID of 32 digits.
@@ -96,49 +81,47 @@ fn long(hex: &[u8]) -> Option<Uuid>
 {
     let mut low: u64 = 0;
     let mut high: u64 = 0;
-    let mut i: usize = 0;
-    while i < LONG_DIGITS {
-        let v = number(hex, i, BYTE_DIGITS);
-        if v == NO_NUMBER {
-            return None;
-        }
+    for i in 0..LONG_LEN {
+        let at = BYTE_DIGITS * i;
+        let v = number(&hex[at..at + BYTE_DIGITS])?;
         high = 256 * high + low / TOP_BYTE;
-        low = 256 * (low % TOP_BYTE) + v;
-        i += BYTE_DIGITS;
+        low = 256 * (low % TOP_BYTE) + v as u64;
     }
     Some(Uuid { low, high })
 }
 
-// The number that the n bytes from at on are, of which the first may be a plus, or NO_NUMBER.
-fn number(hex: &[u8], at: usize, n: usize) -> u64
-    requires { (at + n ≤ length hex.now) × ((2 ≤ n) × (n ≤ 4)) }
-    ensures { result ≡ number_or (slice at (at + n) hex.now) }
+// The number that 2 to 4 bytes are, of which the first may be a plus.
+fn number(text: &[u8]) -> Option<u16>
+    requires { (2 ≤ length text.now) × (length text.now ≤ 4) }
+    ensures { result ≡ number_in text.now }
 {
-    let end = at + n;
-    let mut i = at;
-    if hex[at] == PLUS {
-        i = at + 1;
-    }
-    let mut v: u64 = 0;
-    while i < end {
-        let d = digit(hex[i]);
-        if NO_DIGIT <= d {
-            return NO_NUMBER;
-        }
+    let digits = unsigned(text);
+    let mut v = 0;
+    for &b in digits {
+        let d = digit(b)?;
         v = 16 * v + d;
-        i += 1;
     }
-    v
+    Some(v)
 }
 
-// The value of a hex digit, or NO_DIGIT.
-fn digit(b: u8) -> u64
-    ensures { result ≡ digit_of b }
+// Bytes without a plus in front.
+fn unsigned(text: &[u8]) -> &[u8]
+    ensures { result.now ≡ unsigned text.now }
+{
+    match text {
+        [PLUS, digits @ ..] => digits,
+        _ => text,
+    }
+}
+
+// The value of a hex digit.
+fn digit(b: u8) -> Option<u16>
+    ensures { result ≡ digit_in b }
 {
     match b {
-        b'0'..=b'9' => (b - b'0') as u64,
-        b'A'..=b'F' => (b - b'A' + 10) as u64,
-        b'a'..=b'f' => (b - b'a' + 10) as u64,
-        _ => NO_DIGIT,
+        b'0'..=b'9' => Some((b - b'0') as u16),
+        b'A'..=b'F' => Some((b - b'A' + 10) as u16),
+        b'a'..=b'f' => Some((b - b'a' + 10) as u16),
+        _ => None,
     }
 }

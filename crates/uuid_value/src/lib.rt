@@ -14,6 +14,7 @@ pub struct Uuid {
 }
 
 // The bytes of a UUID as ATT carries them: the first len of bytes. The rest is zero.
+// Kept: a length beside its bytes, since an answer by value has a fixed size and the library uses no heap.
 #[derive(Clone, Copy)]
 pub struct Att {
     pub len: usize,
@@ -38,35 +39,37 @@ const HALF_LEN: usize = 8;
 
 const LONG_LEN: usize = 16;
 
-impl Uuid {
-    pub fn from_u16(v: u16) -> Self
-        ensures { result ≡ short_of v }
-    {
-        Uuid::from_u32(v as u32)
-    }
+impl From<u16> for Uuid {
+    ghost from_gives = { λ v u. u ≡ short_of v };
 
-    // The AD types 04 and 05 list 32-bit UUIDs (Core Supplement Part A 1.1).
-    pub fn from_u32(v: u32) -> Self
-        ensures { result ≡ short_of v }
-    {
+    fn from(v: u16) -> Self {
+        Uuid::from(v as u32)
+    }
+}
+
+// The AD types 04 and 05 list 32-bit UUIDs (Core Supplement Part A 1.1).
+impl From<u32> for Uuid {
+    ghost from_gives = { λ v u. u ≡ short_of v };
+
+    fn from(v: u32) -> Self {
         let high = (v as u64) * SHORT_PLACE + BASE_HIGH;
         Self {
             low: BASE_LOW,
             high,
         }
     }
+}
 
+impl Uuid {
     // From the 16 bytes of s at a place. Zero where s has fewer there.
     pub fn from_128(s: &[u8], at: usize) -> Self
         ensures { result ≡ of_num (le_at 16 s.now at) }
     {
-        if LONG_LEN <= s.len() {
-            if at <= s.len() - LONG_LEN {
-                return Self {
-                    low: bytes_numbers::le64(s, at),
-                    high: bytes_numbers::le64(s, at + HALF_LEN),
-                };
-            }
+        if LONG_LEN <= s.len() && at <= s.len() - LONG_LEN {
+            return Self {
+                low: bytes_numbers::le64(s, at),
+                high: bytes_numbers::le64(s, at + HALF_LEN),
+            };
         }
         Self { low: 0, high: 0 }
     }
@@ -74,53 +77,31 @@ impl Uuid {
     pub fn from_att(bytes: &[u8]) -> Option<Uuid>
         ensures { result ≡ att_uuid bytes.now }
     {
-        if bytes.len() == SHORT_LEN {
-            return Some(Uuid::from_u16(bytes_numbers::le16(bytes, 0)));
+        match bytes.len() {
+            SHORT_LEN => Some(Uuid::from(bytes_numbers::le16(bytes, 0))),
+            LONG_LEN => Some(Uuid::from_128(bytes, 0)),
+            _ => None,
         }
-        if bytes.len() == LONG_LEN {
-            return Some(Uuid::from_128(bytes, 0));
-        }
-        None
     }
 
     // 2 bytes for a Base UUID, else 16.
     pub fn to_att(self) -> Att
         ensures { result ≡ att_of (num self) }
     {
-        let low = self.low;
-        let high = self.high;
-        let none = [0u8; 16];
-        if low == BASE_LOW {
-            if high % SHORT_PLACE == BASE_HIGH {
-                let v = high / SHORT_PLACE;
-                if v < SHORT_END {
-                    return Att {
-                        len: SHORT_LEN,
-                        bytes: with_le(none, 0, SHORT_LEN, v),
-                    };
-                }
-            }
+        let mut bytes = [0; LONG_LEN];
+        let v = self.high / SHORT_PLACE;
+        if self.low == BASE_LOW && self.high % SHORT_PLACE == BASE_HIGH && v < SHORT_END {
+            bytes[..SHORT_LEN].copy_from_slice(&(v as u16).to_le_bytes());
+            return Att {
+                len: SHORT_LEN,
+                bytes,
+            };
         }
-        let half = with_le(none, 0, HALF_LEN, low);
+        bytes[..HALF_LEN].copy_from_slice(&self.low.to_le_bytes());
+        bytes[HALF_LEN..].copy_from_slice(&self.high.to_le_bytes());
         Att {
             len: LONG_LEN,
-            bytes: with_le(half, HALF_LEN, HALF_LEN, high),
+            bytes,
         }
     }
-}
-
-// The bytes given, with the n bytes of v at a place, the least significant first.
-fn with_le(bytes: [u8; 16], at: usize, n: usize, v: u64) -> [u8; 16]
-    requires { at + n ≤ 16 }
-    ensures { result ≡ paste bytes at (le_bytes n v) n }
-{
-    let mut out = bytes;
-    let mut rest = v;
-    let mut i: usize = 0;
-    while i < n {
-        out[at + i] = (rest % 256) as u8;
-        rest = rest / 256;
-        i += 1;
-    }
-    out
 }

@@ -16,13 +16,13 @@ pub returns-then-width-eq-WIDTH_32 : goal.returns-then-width-eq-WIDTH_32
 returns-then-width-eq-WIDTH_32 c =
     let a = c.args in
     c.eq-then-width-eq-WIDTH_32.ensures
-    ∙ equal-numbers c.from_u32.result a.uuid (omega arith) (omega arith)
-    ∙ test_short a.«data».now a.at a.width c.from_u32.result (num a.uuid) (omega arith) 4 c.le32.result c.if-width-eq-WIDTH_32.true refl c.from_u32.ensures c.le32.ensures
+    ∙ equal-numbers c.from.result a.uuid (omega arith) (omega arith)
+    ∙ test_short a.«data».now a.at a.width c.from.result (num a.uuid) (omega arith) 4 c.le32.result c.if-width-eq-WIDTH_32.true refl c.from.ensures c.le32.ensures
 
 pub returns : goal.returns
 returns c =
     let a = c.args in
     let is : a.width ≡ 2 = is-short a.width c.requires.1 c.if-width-eq-WIDTH_128.false c.if-width-eq-WIDTH_32.false in
     c.eq-2.ensures
-    ∙ equal-numbers c.from_u16.result a.uuid (omega arith) (omega arith)
-    ∙ test_short a.«data».now a.at a.width c.from_u16.result (num a.uuid) (omega arith) 2 c.le16.result is refl c.from_u16.ensures c.le16.ensures
+    ∙ equal-numbers c.from-2.result a.uuid (omega arith) (omega arith)
+    ∙ test_short a.«data».now a.at a.width c.from-2.result (num a.uuid) (omega arith) 2 c.le16.result is refl c.from-2.ensures c.le16.ensures

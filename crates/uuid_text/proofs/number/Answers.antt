@@ -1,40 +1,34 @@
-use Prim.Native.Nat.{◌+◌}
+use Prim.Native.Nat.{◌≤◌}
+use mathlib.Core.Path.{◌∙◌}
 use native.Mathlib.Omega.{arith}
-use Rattle.uuid_text.proofs.Laws.{start-plus, start-bare, digit-none, digit-more, digits-end, small-reading}
+use lib.ListN.{length}
+use Rattle.uuid_text.proofs.Laws.{unsigned-length, small-reading, digit-told, digit-more, digit-none, digits-end}
 use Rattle.uuid_text.proofs.number.Goals as goal
-use Rattle.uuid_text.proofs.number.Goals.{then-hex-at-eq-PLUS, else-hex-at-eq-PLUS}
 
-pub loop-i-init : goal.loop-i-init
-loop-i-init c =
-    let a = c.args in
-    elim c.if-hex-at-eq-PLUS.branch [ then-hex-at-eq-PLUS w ↦ start-plus a.hex.now a.at (a.at + a.n) c.if-hex-at-eq-PLUS.i (omega arith) (omega arith) w.if-hex-at-eq-PLUS.true w.i-is | else-hex-at-eq-PLUS w ↦ start-bare a.hex.now a.at (a.at + a.n) c.if-hex-at-eq-PLUS.i (omega arith) (omega arith) w.if-hex-at-eq-PLUS.false w.i-is ]
-
-pub returns-then-d-ge-NO_DIGIT : goal.returns-then-d-ge-NO_DIGIT
-returns-then-d-ge-NO_DIGIT c =
-    let l = c.loop-i in
-    let a = c.args in
-    digit-none a.hex.now a.at (a.at + a.n) l.i (omega arith) (omega arith) l.v c.digit-d.result l.invariant c.loop-i-test.true c.digit-d.ensures c.if-d-ge-NO_DIGIT.true
+pub returns-in_err-d : goal.returns-in_err-d
+returns-in_err-d c =
+    let l = c.loop-b in
+    c.from_residual.ensures ∙ digit-none c.unsigned-digits.result.now l.b-index l.v l.invariant c.loop-b-test.true c.args.text.now c.unsigned-digits.ensures c.in_err-d.ensures
 
 pub overflow_mul-v : goal.overflow_mul-v
 overflow_mul-v c =
-    let l = c.loop-i in
-    let a = c.args in
-    omega (arith, small-reading a.hex.now a.at (a.at + a.n) l.i l.v l.invariant (omega arith))
+    let l = c.loop-b in
+    let n : length c.unsigned-digits.result.now ≤ 4 = rw c.unsigned-digits.ensures (omega (arith, unsigned-length c.args.text.now)) in
+    omega (arith, small-reading _ l.b-index l.v l.invariant (omega arith))
 
 pub overflow_add-v : goal.overflow_add-v
 overflow_add-v c =
-    let l = c.loop-i in
-    let a = c.args in
-    omega (arith, small-reading a.hex.now a.at (a.at + a.n) l.i l.v l.invariant (omega arith))
+    let l = c.loop-b in
+    let d = digit-told _ c.in_ok-d.d c.in_ok-d.ensures in
+    let n : length c.unsigned-digits.result.now ≤ 4 = rw c.unsigned-digits.ensures (omega (arith, unsigned-length c.args.text.now)) in
+    omega (arith, d.1, small-reading _ l.b-index l.v l.invariant (omega arith))
 
-pub loop-i-preserved : goal.loop-i-preserved
-loop-i-preserved c =
-    let l = c.loop-i in
-    let a = c.args in
-    digit-more a.hex.now a.at (a.at + a.n) l.i (omega arith) (omega arith) l.v c.digit-d.result l.invariant c.loop-i-test.true c.digit-d.ensures c.if-d-ge-NO_DIGIT.false
+pub loop-b-preserved : goal.loop-b-preserved
+loop-b-preserved c =
+    let l = c.loop-b in
+    digit-more c.unsigned-digits.result.now l.b-index l.v l.invariant c.loop-b-test.true c.in_ok-d.d c.in_ok-d.ensures
 
 pub returns : goal.returns
 returns c =
-    let l = c.loop-i in
-    let a = c.args in
-    digits-end a.hex.now a.at (a.at + a.n) l.i (omega arith) (omega arith) l.v l.invariant c.loop-i-test.false (omega arith)
+    let l = c.loop-b in
+    digits-end c.unsigned-digits.result.now l.b-index l.v l.invariant (omega arith) c.args.text.now c.unsigned-digits.ensures (omega arith)
