@@ -1,16 +1,17 @@
 // What a call tells C, in words: its refusal, then the numbers of its answer. Words that an answer does not use are 0.
 #![tactic(auto)]
 
-ghost use Rattle.std.specs.Prelude.{◌≡◌};
-ghost use Rattle.radio_sights.specs.View.{span_of};
+ghost use Rattle.std.specs.Prelude.{◌≡◌, Ok, Some};
 ghost use Rattle.c_told.specs.Told.{answer_words, refusal_words, advertised_words};
-ghost use Rattle.c_told.specs.Read.{status_number, status_code, flag_number, response_there, timer_words, handle_words, given_words, passed_words, seen_words, spot_words, sighting_words};
+ghost use Rattle.c_told.specs.Read.{status_number, status_code, timer_words, handle_words, given_words, passed_words, seen_words, spot_words, sighting_words};
 
+use adv_presence::Presence;
 use radio_match::AdvAction;
-use radio_sights::{AdvReport, Response, Seen, Span};
-use radio_views::{Sighting, Spot};
+use radio_sights::{AdvReport, Span};
 use state::{LinkRequest, Sent, StepStatus};
-use state_readers::{Given, Handle, Passed, Timer};
+use state_readers::{Given, Passed};
+use state_refusals::Refusal;
+use time::Micros;
 
 // What a call asks of the link: nothing, an update of its parameters, its end.
 const NOTHING: u64 = 0;
@@ -94,27 +95,28 @@ pub fn advertised_words(refusal: u8, action: AdvAction) -> [u64; 8]
 // ---- calls that only read: refusal, whether there is what was asked for, its numbers
 
 // When the running step ends by itself.
-pub fn timer_words(x: Timer) -> [u64; 8]
+pub fn timer_words(x: Result<Option<Micros>, Refusal>) -> [u64; 8]
     ensures { result ≡ timer_words x }
 {
     match x {
-        Timer::Refused(why) => [why as u64, 0, 0, 0, 0, 0, 0, 0],
-        Timer::Never => [0, 0, 0, 0, 0, 0, 0, 0],
-        Timer::At(at) => [0, THERE, at.0, 0, 0, 0, 0, 0],
+        Err(why) => refusal_words(why.number()),
+        Ok(None) => [0; 8],
+        Ok(Some(at)) => [0, THERE, at.0, 0, 0, 0, 0, 0],
     }
 }
 
 // The handle of the link.
-pub fn handle_words(x: Handle) -> [u64; 8]
+pub fn handle_words(x: Result<Option<u16>, Refusal>) -> [u64; 8]
     ensures { result ≡ handle_words x }
 {
     match x {
-        Handle::Refused(why) => [why as u64, 0, 0, 0, 0, 0, 0, 0],
-        Handle::Absent => [0, 0, 0, 0, 0, 0, 0, 0],
-        Handle::Is(handle) => [0, THERE, handle as u64, 0, 0, 0, 0, 0],
+        Err(why) => refusal_words(why.number()),
+        Ok(None) => [0; 8],
+        Ok(Some(handle)) => [0, THERE, handle as u64, 0, 0, 0, 0, 0],
     }
 }
 
+// Kept: a match, since a status with a code in it has no number to cast, and these numbers are C's.
 fn status_number(s: StepStatus) -> u64
     ensures { result ≡ status_number s }
 {
@@ -136,113 +138,85 @@ fn status_code(s: StepStatus) -> u64
     ensures { result ≡ status_code s }
 {
     match s {
-        StepStatus::Ok => 0,
-        StepStatus::Timeout => 0,
-        StepStatus::NotConnected => 0,
-        StepStatus::NotFound => 0,
-        StepStatus::AttError(code) => code as u64,
-        StepStatus::TooLong => 0,
-        StepStatus::Disconnected => 0,
-        StepStatus::TableFull => 0,
-        StepStatus::BearerClosed => 0,
+        StepStatus::AttError(code) => u64::from(code),
+        _ => 0,
     }
 }
 
 // A result: time, status, ATT error code, place and length of its value.
-pub fn given_words(x: Given) -> [u64; 8]
+pub fn given_words(x: Result<Option<Given>, Refusal>) -> [u64; 8]
     ensures { result ≡ given_words x }
 {
     match x {
-        Given::Refused(why) => [why as u64, 0, 0, 0, 0, 0, 0, 0],
-        Given::Nothing => [0, 0, 0, 0, 0, 0, 0, 0],
-        Given::Is {
-            at,
-            status,
-            place,
-            len,
-        } => {
-            let number = status_number(status);
-            let code = status_code(status);
-            [0, THERE, at.0, number, code, place as u64, len as u64, 0]
+        Err(why) => refusal_words(why.number()),
+        Ok(None) => [0; 8],
+        Ok(Some(g)) => {
+            let number = status_number(g.status);
+            let code = status_code(g.status);
+            let value = g.value;
+            [
+                0,
+                THERE,
+                g.at.0,
+                number,
+                code,
+                value.at as u64,
+                value.len as u64,
+                0,
+            ]
         }
     }
 }
 
-fn flag_number(b: bool) -> u64
-    ensures { result ≡ flag_number b }
-{
-    if b {
-        return 1;
-    }
-    0
-}
-
 // A notification: time, link, handle, whether it is an indication, place and length of its value.
-pub fn passed_words(x: Passed) -> [u64; 8]
+pub fn passed_words(x: Result<Option<Passed>, Refusal>) -> [u64; 8]
     ensures { result ≡ passed_words x }
 {
     match x {
-        Passed::Refused(why) => [why as u64, 0, 0, 0, 0, 0, 0, 0],
-        Passed::Nothing => [0, 0, 0, 0, 0, 0, 0, 0],
-        Passed::Is {
-            at,
-            link,
-            handle,
-            indication,
-            place,
-            len,
-        } => {
-            let on = handle as u64;
-            let kind = flag_number(indication);
-            [0, THERE, at.0, link, on, kind, place as u64, len as u64]
+        Err(why) => refusal_words(why.number()),
+        Ok(None) => [0; 8],
+        Ok(Some(p)) => {
+            let on = p.handle as u64;
+            let kind = u64::from(p.indication);
+            let value = p.value;
+            [
+                0,
+                THERE,
+                p.at.0,
+                p.link,
+                on,
+                kind,
+                value.at as u64,
+                value.len as u64,
+            ]
         }
     }
 }
 
 // ---- views
 
-fn span_of(x: Response) -> Span
-    ensures { result ≡ span_of x }
-{
-    match x {
-        Response::Nothing => Span { at: 0, len: 0 },
-        Response::At(s) => s,
-    }
-}
-
-fn response_there(x: Response) -> u64
-    ensures { result ≡ response_there x }
-{
-    match x {
-        Response::Nothing => NOTHING,
-        Response::At(_) => THERE,
-    }
-}
-
 // A report: time, channel, PDU type, address, place and length of its data, whether it has a scan response, its place and length.
-pub fn seen_words(x: Seen) -> [u64; 12]
+pub fn seen_words(x: Result<Option<AdvReport>, Refusal>) -> [u64; 12]
     ensures { result ≡ seen_words x }
 {
     match x {
-        Seen::Refused(why) => [why as u64, 0, 0, 0, 0, 0, 0, 0, 0, 0, 0, 0],
-        Seen::Nothing => [0, 0, 0, 0, 0, 0, 0, 0, 0, 0, 0, 0],
-        Seen::Is(report) => report_words(report),
+        Err(why) => [why.number() as u64, 0, 0, 0, 0, 0, 0, 0, 0, 0, 0, 0],
+        Ok(None) => [0; 12],
+        Ok(Some(report)) => report_words(report),
     }
 }
 
 fn report_words(r: AdvReport) -> [u64; 12]
-    ensures { result ≡ seen_words (Seen.Is r) }
+    ensures { result ≡ seen_words (Ok (Some r)) }
 {
-    let at = r.at;
     let key = adv_reports::key_of(r.address);
     let data = r.data;
-    let response = r.response;
-    let there = response_there(response);
-    let answer = span_of(response);
+    let there = u64::from(r.response.is_some());
+    let answer = radio_sights::span_of(r.response);
     [
         0,
         THERE,
-        at.0,
+        r.at.0,
         r.channel as u64,
         r.pdu as u64,
         key,
@@ -256,24 +230,24 @@ fn report_words(r: AdvReport) -> [u64; 12]
 }
 
 // Bytes in the store: their place and length.
-pub fn spot_words(x: Spot) -> [u64; 8]
+pub fn spot_words(x: Result<Option<Span>, Refusal>) -> [u64; 8]
     ensures { result ≡ spot_words x }
 {
     match x {
-        Spot::Refused(why) => [why as u64, 0, 0, 0, 0, 0, 0, 0],
-        Spot::Nothing => [0, 0, 0, 0, 0, 0, 0, 0],
-        Spot::At(s) => [0, THERE, s.at as u64, s.len as u64, 0, 0, 0, 0],
+        Err(why) => refusal_words(why.number()),
+        Ok(None) => [0; 8],
+        Ok(Some(s)) => [0, THERE, s.at as u64, s.len as u64, 0, 0, 0, 0],
     }
 }
 
 // What a report tells of a service: 0 absent, 1 listed, 2 unknown.
-pub fn sighting_words(x: Sighting) -> [u64; 8]
+pub fn sighting_words(x: Result<Option<Presence>, Refusal>) -> [u64; 8]
     ensures { result ≡ sighting_words x }
 {
     match x {
-        Sighting::Refused(why) => [why as u64, 0, 0, 0, 0, 0, 0, 0],
-        Sighting::Nothing => [0, 0, 0, 0, 0, 0, 0, 0],
-        Sighting::Is(presence) => {
+        Err(why) => refusal_words(why.number()),
+        Ok(None) => [0; 8],
+        Ok(Some(presence)) => {
             let number = adv_presence::presence_number(presence);
             [0, THERE, number as u64, 0, 0, 0, 0, 0]
         }

@@ -14,7 +14,8 @@ use radio_match::AdvAction;
 use script_rules::Batch;
 use state::{Address, Sent};
 use state_core::Core;
-use state_readers::{Given, Handle, Timer};
+use state_readers::Given;
+use state_refusals::Refusal;
 use time::Micros;
 
 pub mod fresh;
@@ -169,21 +170,21 @@ pub fn on_scan_response(
 }
 
 // When the running step is to be ended by a timer call, if ever.
-pub fn timer_us(state: State, store: &[u8]) -> Timer
+pub fn timer_us(state: State, store: &[u8]) -> Result<Option<Micros>, Refusal>
     ensures { result ≡ timer (reading state) (length store.now) }
 {
     state_readers::timer_us(state.core, &state.tables, store)
 }
 
 // The handle of the link, if there is one.
-pub fn connected_handle(state: State, store: &[u8]) -> Handle
+pub fn connected_handle(state: State, store: &[u8]) -> Result<Option<u16>, Refusal>
     ensures { result ≡ handle (reading state) (length store.now) }
 {
     state_readers::connected_handle(state.core, &state.tables, store)
 }
 
 // The kept result of an index.
-pub fn result(state: State, store: &[u8], index: u32) -> Given
+pub fn result(state: State, store: &[u8], index: u32) -> Result<Option<Given>, Refusal>
     ensures { result ≡ result_answer (reading state) (length store.now) index }
 {
     state_readers::result(state.core, &state.tables, store, index)

@@ -6,7 +6,7 @@
 -- their order (thm_heard/specs/Events.antt). `OnWire`: thm_wire/specs/Wire.antt. `handed_in`, `noticed`, `links_came`: thm_counts/specs/Tally.antt.
 -- `brought`, `notices_of`, `links_of`: everything heard, and how many links there were, from the calls and their refusals alone
 -- (thm_waits/specs/Notices.antt). `wait_from`, `values_of`, `Passed`, `Names`: thm_waits/specs/Waits.antt. `finished`, `Spent`: thm_closed/specs/Closed.antt.
-use Rattle.std.specs.Prelude.{ℕ, zero, suc, ◌+◌, ◌-◌, ◌<◌, ◌≡◌, true, ◌&&◌, List, [], ◌∷◌, ◌++◌, length, drop, get_or}
+use Rattle.std.specs.Prelude.{ℕ, zero, suc, ◌+◌, ◌-◌, ◌<◌, ◌≡◌, true, ◌&&◌, List, [], ◌∷◌, ◌++◌, None, Ok, length, drop, get_or}
 use Rattle.std.proofs.Common.{sym, ap, ◌∙◌, arith, length-drop, eq-eqb}
 use Rattle.state_places.specs.Sizes.{store_size, most_results, most_notifications}
 use Rattle.lists.specs.Queue.{newest}
@@ -22,7 +22,6 @@ use Rattle.state.specs.declared.Step.TheVariants.{Read, WaitNotification}
 use Rattle.state.specs.declared.StepStatus.TheVariants.{Ok}
 use Rattle.state_rules.specs.Fit.{fits, awaits}
 use Rattle.state_rules.specs.Refusals.{accepted, unfit}
-use Rattle.state_readers.specs.declared.Handle.TheVariants.{Absent}
 use Rattle.state_readers.specs.Numbers.{handle_words}
 use Rattle.thm_trail.specs.Calls.{Reader, timer_us, connected_handle, Call, timer, connected, disconnected, reads, time_of, does, left, fresh, run, gate_of}
 use Rattle.thm_trail.specs.Log.{kept_results, no_valued, given_by, log, taken}
@@ -147,7 +146,7 @@ module _ (options : Options) (store : List ℕ) (cs : List Call) where
 
   -- `connected_handle` says the handle of the last accepted connected call, while no accepted disconnected call came since;
   pub handle-says : fitness.Typed cs → length store ≡ store_size
-      → said (run (fresh options store) cs) connected_handle ≡ handle_words (link_after Absent cs (refusals (fresh options store) cs))
+      → said (run (fresh options store) cs) connected_handle ≡ handle_words (Ok (link_after None cs (refusals (fresh options store) cs)))
   handle-says t z = handle-said options store cs (answers options store cs (fit_stays t) z)
 
   -- `result` says entry i of the log while it is among the newest 64, with its value in the store, and else that there is none.

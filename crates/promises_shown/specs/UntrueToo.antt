@@ -1,5 +1,5 @@
 -- More edits of what a promise says, tried under must-fail: each makes a promise false, as in Untrue.antt.
-use Rattle.std.specs.Prelude.{ℕ, suc, ◌+◌, ◌≤◌, ◌<◌, ◌≡◌, refl, Bool, true, false, not, ◌&&◌, List, [], ◌∷◌, ◌++◌, reverse, length, drop, replicate, get_or, eqb, leb}
+use Rattle.std.specs.Prelude.{ℕ, suc, ◌+◌, ◌≤◌, ◌<◌, ◌≡◌, refl, Bool, true, false, not, ◌&&◌, List, [], ◌∷◌, ◌++◌, Option, None, Some, Ok, reverse, length, drop, replicate, get_or, eqb, leb}
 use Rattle.std.proofs.Common.{sym, ap, ◌∙◌, subst, arith}
 use Rattle.std.proofs.lemmas.Bool.{false≢true}
 use Rattle.bytes_base.specs.Choice.{pick}
@@ -17,8 +17,6 @@ use Rattle.script_rules.specs.World.{Held}
 use Rattle.script_rules.specs.Waiting.{waiting}
 use Rattle.script_rules.specs.Timed.{narrow}
 use Rattle.script_rules.specs.Events.{is_connect}
-use Rattle.state_readers.specs.declared.Handle.{Handle}
-use Rattle.state_readers.specs.declared.Handle.TheVariants.{Absent, Is}
 use Rattle.state_readers.specs.Readers as readers
 use Rattle.state_readers.specs.Numbers.{eight, handle_words}
 use Rattle.thm_trail.specs.Calls.{timer_us, connected_handle, result_of, Call, batch, timer, connected, disconnected, advertising, scan_response, fragment, reads, time_of, does, left, run}
@@ -417,17 +415,17 @@ timer-call-one-late p =
     (sym due-so.after_is ∙ ap (λ (h : Held). h.state.running.active) (p store waits out (at 1001) due-so.accepted-is due-so.later-is) ∙ due-so.before-is)
 
 -- a link that is lost
-abbrev pub link_by_kept : Call → Handle → Handle
+abbrev pub link_by_kept : Call → Option ℕ → Option ℕ
 link_by_kept (batch out at b values) x = x
 link_by_kept (timer out at) x = x
-link_by_kept (connected out handle at) x = Is handle
+link_by_kept (connected out handle at) x = Some handle
 link_by_kept (disconnected at) x = x
 link_by_kept (advertising v) x = x
 link_by_kept (scan_response at a d) x = x
 link_by_kept (fragment out at start bytes) x = x
 link_by_kept (reads r) x = x
 
-abbrev pub link_after_kept : Handle → List Call → List ℕ → Handle
+abbrev pub link_after_kept : Option ℕ → List Call → List ℕ → Option ℕ
 link_after_kept x [] rs = x
 link_after_kept x (c ∷ cs) [] = x
 link_after_kept x (c ∷ cs) (r ∷ rs) = link_after_kept (pick (eqb r accepted) (link_by_kept c x) x) cs rs
@@ -437,7 +435,7 @@ parts = linked ++ (disconnected (at 2) ∷ [])
 
 record Parted : Type 0 where
   said-is : said (run (fresh store) parts) connected_handle ≡ nothing
-  edited-is : handle_words (link_after_kept Absent parts (refusals (fresh store) parts)) ≡ eight 0 1 64 0 0 0 0 0
+  edited-is : handle_words (Ok (link_after_kept None parts (refusals (fresh store) parts))) ≡ eight 0 1 64 0 0 0 0 0
 
 parted-so : Parted
 unfolding opened readers.handle
@@ -445,11 +443,11 @@ parted-so = record { said-is = refl; edited-is = refl }
 
 pub lost-link-still-said :
     ((store : List ℕ) (cs : List Call) → Typed cs → length store ≡ store_size
-    → said (run (fresh store) cs) connected_handle ≡ handle_words (link_after_kept Absent cs (refusals (fresh store) cs))) → ⊥
+    → said (run (fresh store) cs) connected_handle ≡ handle_words (Ok (link_after_kept None cs (refusals (fresh store) cs)))) → ⊥
 lost-link-still-said p = omega (arith, ap second (sym parted-so.said-is ∙ p store parts (refl, (refl, tt)) store-sized ∙ parted-so.edited-is))
 
 -- a link whose call is refused: no output is lent
-abbrev pub link_after_any : Handle → List Call → List ℕ → Handle
+abbrev pub link_after_any : Option ℕ → List Call → List ℕ → Option ℕ
 link_after_any x [] rs = x
 link_after_any x (c ∷ cs) [] = x
 link_after_any x (c ∷ cs) (r ∷ rs) = link_after_any (link_by c x) cs rs
@@ -459,7 +457,7 @@ unmet = connected [] 64 (at 1) ∷ []
 
 record Unmet : Type 0 where
   said-is : said (run (fresh store) unmet) connected_handle ≡ nothing
-  edited-is : handle_words (link_after_any Absent unmet (refusals (fresh store) unmet)) ≡ eight 0 1 64 0 0 0 0 0
+  edited-is : handle_words (Ok (link_after_any None unmet (refusals (fresh store) unmet))) ≡ eight 0 1 64 0 0 0 0 0
 
 unmet-so : Unmet
 unfolding opened readers.handle
@@ -467,7 +465,7 @@ unmet-so = record { said-is = refl; edited-is = refl }
 
 pub refused-link-said :
     ((store : List ℕ) (cs : List Call) → Typed cs → length store ≡ store_size
-    → said (run (fresh store) cs) connected_handle ≡ handle_words (link_after_any Absent cs (refusals (fresh store) cs))) → ⊥
+    → said (run (fresh store) cs) connected_handle ≡ handle_words (Ok (link_after_any None cs (refusals (fresh store) cs)))) → ⊥
 refused-link-said p = omega (arith, ap second (sym unmet-so.said-is ∙ p store unmet (refl, tt) store-sized ∙ unmet-so.edited-is))
 
 -- two steps, done at 1 and at 2

@@ -16,39 +16,45 @@ use Rattle.state.specs.Central.{Central}
 use Rattle.state.specs.declared.Reports.{Reports}
 use Rattle.state_rules.specs.Facts.{Fit}
 use Rattle.state_rules.specs.Gate.{gate_reader}
-use Rattle.state_rules.proofs.GateLaws.{PassedReader, passed-reader, refuses, accepts}
-use Rattle.radio_sights.specs.declared.Span.{Span}
+use Rattle.state_rules.specs.Fit.{fits}
+use Rattle.state_rules.proofs.GateLaws.{PassedReader, passed-reader}
+use Rattle.state_rules.proofs.PastGate.{refuses-by, tells-by, refusal-by}
+use Rattle.state_refusals.specs.declared.Refusal.{Refusal}
+use Rattle.state_refusals.specs.Refusals.{accepted, number}
+use Rattle.state_refusals.specs.Refused.{refused, refusal_number}
+use Rattle.std.specs.Prelude.{Option, None, Some, Result, Ok, Err}
+use Rattle.bytes_bounds.specs.declared.Span.{Span}
 use Rattle.radio_sights.specs.declared.AdvReport.{AdvReport}
-use Rattle.radio_sights.specs.declared.Response.TheVariants as response
-use Rattle.radio_sights.specs.declared.Seen.{Seen}
-use Rattle.radio_sights.specs.declared.Seen.TheVariants as seen
-use Rattle.radio_sights.specs.View.{span, response_in, report_of, view, data_in, span_of, answer_in, part, part_at, body_seen, body_seen_at, view_refusal}
+use Rattle.radio_sights.specs.View.{span, response_in, report_of, view, data_in, span_of, answer_in, part, part_at, body_seen, body_seen_at}
+
+abbrev Seen : Type 0
+Seen = Result (Option AdvReport) Refusal
 
 -- ---- the ways to an answer
 
-module _ (c : Central) (store i why : ℕ) (e : why ≡ gate_reader c store) where
-  pub view-refused : (why ≡ 0 → ⊥) → seen.Refused why ≡ view c store i
+module _ (c : Central) (store i : ℕ) where
+  pub view-refused : (why : Refusal) → number why ≡ gate_reader c store → Err why ≡ view c store i
   unfolding view
-  view-refused n = refuses why (gate_reader c store) seen.Refused (pick (ltb i c.reports.count) (seen.Is (report_of c.reports i)) seen.Nothing) e n
+  view-refused why e = refuses-by (gate_reader c store) (pick (ltb i c.reports.count) (Some (report_of c.reports i)) None) why e
 
-  module _ (z : why ≡ 0) (r : Reports) (f : r ≡ c.reports) where
+  module _ (e : accepted ≡ gate_reader c store) (r : Reports) (f : r ≡ c.reports) where
     pub view-passed : PassedReader c store
-    view-passed = passed-reader c store (sym e ∙ z)
+    view-passed = passed-reader c store (sym e)
 
     pub view-few : r.count ≤ most_reports
     view-few = let n : r.count ≡ c.reports.count = ap (λ (x : Reports). x.count) f in omega (arith, view-passed.fit.head.reports)
 
-    pub view-nothing : r.count ≤ i → seen.Nothing ≡ view c store i
+    pub view-nothing : r.count ≤ i → Ok None ≡ view c store i
     unfolding view
     view-nothing h =
         let m : c.reports.count ≤ i = rw f at h in
-        accepts why (gate_reader c store) seen.Refused (pick (ltb i c.reports.count) (seen.Is (report_of c.reports i)) seen.Nothing) e seen.Nothing z (rw (le-ltb i c.reports.count m))
+        tells-by (gate_reader c store) (pick (ltb i c.reports.count) (Some (report_of c.reports i)) None) None e (rw (le-ltb i c.reports.count m))
 
-    pub view-seen : (x : AdvReport) → i < r.count → x ≡ report_of r i → seen.Is x ≡ view c store i
+    pub view-seen : (x : AdvReport) → i < r.count → x ≡ report_of r i → Ok (Some x) ≡ view c store i
     unfolding view
     view-seen x h g =
         let m : i < c.reports.count = rw f at h in
-        accepts why (gate_reader c store) seen.Refused (pick (ltb i c.reports.count) (seen.Is (report_of c.reports i)) seen.Nothing) e (seen.Is x) z (rw (lt-ltb i c.reports.count m, g, f))
+        tells-by (gate_reader c store) (pick (ltb i c.reports.count) (Some (report_of c.reports i)) None) (Some x) e (rw (lt-ltb i c.reports.count m, g, f))
 
 -- ---- what is seen lies in the store
 
@@ -65,7 +71,7 @@ data-short r i c e f l h =
 answer-inside : (i n : ℕ) → i < 64 → (span_of (response_in i n)).at + (span_of (response_in i n)).len ≤ store_size
 answer-inside i n h = go (leb n data_size) refl
   where
-    go : (b : Bool) → leb n data_size ≡ b → (span_of (pick b (response.At (span (response_at i) n)) response.Nothing)).at + (span_of (pick b (response.At (span (response_at i) n)) response.Nothing)).len ≤ store_size
+    go : (b : Bool) → leb n data_size ≡ b → (span_of (pick b (Some (span (response_at i) n)) None)).at + (span_of (pick b (Some (span (response_at i) n)) None)).len ≤ store_size
     go true e = omega (arith, leb-true n data_size e)
     go false e = omega arith
 
@@ -74,7 +80,7 @@ unfolding view
 view-inside c store i l = go (eqb (gate_reader c store) 0) refl (ltb i c.reports.count) refl
   where
     go : (a : Bool) → eqb (gate_reader c store) 0 ≡ a → (b : Bool) → ltb i c.reports.count ≡ b
-        → Inside (pick a (pick b (seen.Is (report_of c.reports i)) seen.Nothing) (seen.Refused (gate_reader c store))) store
+        → Inside (pick a (Ok (pick b (Some (report_of c.reports i)) None)) (refused (gate_reader c store))) store
     go true ea true eb =
         let p = passed-reader c store (eqb-true (gate_reader c store) 0 ea) in
         let h = ltb-true i c.reports.count eb in
@@ -104,12 +110,6 @@ body-told u s p x d r e₁ e₂ e₃ e₄ b q f g = (f ∙ rw (e₁, e₃), g �
 
 -- ---- the refusal of what is seen is the gate's
 
-pub view-refusal : (c : Central) (store i : ℕ) → view_refusal (view c store i) ≡ gate_reader c store
+pub view-refusal : (c : Central) (store i : ℕ) → refusal_number (view c store i) ≡ gate_reader c store
 unfolding view
-view-refusal c store i = go (eqb (gate_reader c store) 0) refl (ltb i c.reports.count)
-  where
-    go : (b : Bool) → eqb (gate_reader c store) 0 ≡ b → (d : Bool)
-        → view_refusal (pick b (pick d (seen.Is (report_of c.reports i)) seen.Nothing) (seen.Refused (gate_reader c store))) ≡ gate_reader c store
-    go true e true = sym (eqb-true (gate_reader c store) 0 e)
-    go true e false = sym (eqb-true (gate_reader c store) 0 e)
-    go false e d = refl
+view-refusal c store i = refusal-by (pick (ltb i c.reports.count) (Some (report_of c.reports i)) None) (fits c) (eqb store store_size) true

@@ -1,25 +1,17 @@
 // What stands at a place of the reports, and where its bytes stand in the store.
 #![tactic(auto)]
 
-ghost use Rattle.std.specs.Prelude.{◌≡◌, ◌<◌};
+ghost use Rattle.std.specs.Prelude.{◌≡◌};
 ghost use Rattle.radio_sights.specs.View.{data_in, span_of, answer_in};
 
+pub use bytes_bounds::Span;
 use state::Address;
+use state_refusals::Refusal;
 use time::Micros;
 
-// Bytes of the store: len from at on.
-#[derive(Clone, Copy)]
-pub struct Span {
-    pub at: usize,
-    pub len: usize,
-}
+const NOWHERE: Span = Span { at: 0, len: 0 };
 
-#[derive(Clone, Copy)]
-pub enum Response {
-    Nothing,
-    At(Span),
-}
-
+// Data and scan response are bytes of the store.
 #[derive(Clone, Copy)]
 pub struct AdvReport {
     pub address: Address,
@@ -27,46 +19,32 @@ pub struct AdvReport {
     pub channel: u8,
     pub pdu: u8,
     pub data: Span,
-    pub response: Response,
-}
-
-#[derive(Clone, Copy)]
-pub enum Seen {
-    Refused(u8),
-    Nothing,
-    Is(AdvReport),
+    pub response: Option<Span>,
 }
 
 // Where its advertising data stands.
-pub fn data_in(x: Seen) -> Span
+pub fn data_in(x: Result<Option<AdvReport>, Refusal>) -> Span
     ensures { result ≡ data_in x }
 {
     match x {
-        Seen::Refused(_) => Span { at: 0, len: 0 },
-        Seen::Nothing => Span { at: 0, len: 0 },
-        Seen::Is(r) => r.data,
+        Ok(Some(r)) => r.data,
+        _ => NOWHERE,
     }
 }
 
-fn span_of(x: Response) -> Span
+// Where a scan response stands.
+pub fn span_of(x: Option<Span>) -> Span
     ensures { result ≡ span_of x }
 {
-    match x {
-        Response::Nothing => Span { at: 0, len: 0 },
-        Response::At(s) => s,
-    }
+    x.unwrap_or(NOWHERE)
 }
 
 // Where its scan response stands.
-pub fn answer_in(x: Seen) -> Span
+pub fn answer_in(x: Result<Option<AdvReport>, Refusal>) -> Span
     ensures { result ≡ answer_in x }
 {
     match x {
-        Seen::Refused(_) => Span { at: 0, len: 0 },
-        Seen::Nothing => Span { at: 0, len: 0 },
-        Seen::Is(r) => {
-            let response = r.response;
-            span_of(response)
-        }
+        Ok(Some(r)) => span_of(r.response),
+        _ => NOWHERE,
     }
 }

@@ -1,34 +1,25 @@
 -- Where the bytes of what is seen stand in the store: a refusal, nowhere, or a place and a length.
-use Rattle.std.specs.Prelude.{ℕ, ◌+◌, List, Option, Some, None}
-use Rattle.bytes_bounds.specs.declared.Span.{Span as Body}
+use Rattle.std.specs.Prelude.{ℕ, ◌+◌, List, Option, None, Some, Result, Ok, Err}
+use Rattle.bytes_bounds.specs.declared.Span.{Span}
 use Rattle.adv_data.specs.Ad.{listed_place}
-use Rattle.radio_sights.specs.declared.Span.{Span}
-use Rattle.radio_sights.specs.declared.Response.{Response}
-use Rattle.radio_sights.specs.declared.Response.TheVariants as response
-use Rattle.radio_sights.specs.declared.Seen.{Seen}
-use Rattle.radio_sights.specs.declared.Seen.TheVariants as seen
+use Rattle.state_refusals.specs.declared.Refusal.{Refusal}
+use Rattle.radio_sights.specs.declared.AdvReport.{AdvReport}
 use Rattle.radio_sights.specs.View.{span, span_of, part}
-use Rattle.radio_views.specs.declared.Spot.{Spot}
-use Rattle.radio_views.specs.declared.Spot.TheVariants as spot
 
 -- the advertising data
-abbrev pub data_seen : Seen → Spot
-data_seen (seen.Refused n) = spot.Refused n
-data_seen seen.Nothing = spot.Nothing
-data_seen (seen.Is r) = spot.At r.«data»
+abbrev pub data_seen : Result (Option AdvReport) Refusal → Result (Option Span) Refusal
+data_seen (Err why) = Err why
+data_seen (Ok None) = Ok None
+data_seen (Ok (Some r)) = Ok (Some r.«data»)
 
 -- the scan response
-abbrev pub response_spot : Response → Spot
-response_spot response.Nothing = spot.Nothing
-response_spot (response.At s) = spot.At s
-
-abbrev pub response_seen : Seen → Spot
-response_seen (seen.Refused n) = spot.Refused n
-response_seen seen.Nothing = spot.Nothing
-response_seen (seen.Is r) = response_spot r.response
+abbrev pub response_seen : Result (Option AdvReport) Refusal → Result (Option Span) Refusal
+response_seen (Err why) = Err why
+response_seen (Ok None) = Ok None
+response_seen (Ok (Some r)) = Ok r.response
 
 -- a place in a part of the store, as a place in the store
-abbrev pub behind : ℕ → Option Body → Option Span
+abbrev pub behind : ℕ → Option Span → Option Span
 behind at (Some x) = Some (span (at + x.at) x.len)
 behind at None = None
 
@@ -36,15 +27,15 @@ behind at None = None
 abbrev pub place_in : ℕ → List ℕ → Span → Option Span
 place_in u s x = behind x.at (listed_place u (part s x))
 
-abbrev pub spot_or : Option Span → Spot → Spot
-spot_or (Some x) other = spot.At x
+abbrev pub spot_or : Option Span → Option Span → Option Span
+spot_or (Some x) other = Some x
 spot_or None other = other
 
 -- of those in the data, or else of those in the scan response
-abbrev pub body_in : ℕ → List ℕ → Span → Span → Spot
-body_in u s bytes answer = spot_or (place_in u s bytes) (spot_or (place_in u s answer) spot.Nothing)
+abbrev pub body_in : ℕ → List ℕ → Span → Span → Option Span
+body_in u s bytes answer = spot_or (place_in u s bytes) (place_in u s answer)
 
-abbrev pub body_spot : ℕ → List ℕ → Seen → Spot
-body_spot u s (seen.Refused n) = spot.Refused n
-body_spot u s seen.Nothing = spot.Nothing
-body_spot u s (seen.Is r) = body_in u s r.«data» (span_of r.response)
+abbrev pub body_spot : ℕ → List ℕ → Result (Option AdvReport) Refusal → Result (Option Span) Refusal
+body_spot u s (Err why) = Err why
+body_spot u s (Ok None) = Ok None
+body_spot u s (Ok (Some r)) = Ok (body_in u s r.«data» (span_of r.response))

@@ -8,116 +8,86 @@ ghost use Rattle.radio_sights.specs.View.{response_in, view, data_in, answer_in,
 ghost use Rattle.state_core.specs.Reading.{central};
 ghost use Rattle.adv_presence.specs.Presences.{presence_in};
 ghost use Rattle.radio_views.specs.Presences.{presence_seen};
-ghost use Rattle.radio_views.specs.Spots.{place_in, body_in, response_spot, data_seen, response_seen, body_spot};
+ghost use Rattle.radio_views.specs.Spots.{place_in, body_in, data_seen, response_seen, body_spot};
 
 use adv_presence::Presence;
-pub use radio_sights::{AdvReport, Response, Seen, Span};
+pub use radio_sights::{AdvReport, Span};
 use state_core::Core;
 use state_places::MAX_DATA;
+use state_refusals::Refusal;
 use uuid_value::Uuid;
-
-// Where bytes stand in the store: refused, nowhere, or there.
-#[derive(Clone, Copy)]
-pub enum Spot {
-    Refused(u8),
-    Nothing,
-    At(Span),
-}
-
-// What a report tells of a service: refused, no such report, or what it tells.
-#[derive(Clone, Copy)]
-pub enum Sighting {
-    Refused(u8),
-    Nothing,
-    Is(Presence),
-}
-
-const MAX_LENGTH: u8 = MAX_DATA as u8;
 
 // ---- report i
 
-fn wide(x: u8) -> usize
-    ensures { result ≡ x }
-{
-    x as usize
-}
-
 // The scan response of report i, if its length is one.
-fn response_in(i: usize, len: u8) -> Response
+fn response_in(i: usize, len: u8) -> Option<Span>
     requires { i < most_reports }
     ensures { result ≡ response_in i len }
 {
-    if MAX_LENGTH < len {
-        return Response::Nothing;
+    let len = usize::from(len);
+    if MAX_DATA < len {
+        return None;
     }
-    let at = state_places::response_at(i);
-    let n = wide(len);
-    Response::At(Span { at, len: n })
+    Some(Span {
+        at: state_places::response_at(i),
+        len,
+    })
 }
 
 // Report i.
-pub fn report(core: Core, tables: &[u64; 1152], store: &[u8], i: usize) -> Seen
+pub fn report(
+    core: Core,
+    tables: &[u64; 1152],
+    store: &[u8],
+    i: usize,
+) -> Result<Option<AdvReport>, Refusal>
     ensures { result ≡ view (central core tables.now) (length store.now) i }
 {
-    if let Err(why) = state_fit::gate_reader(core, tables, store.len()) {
-        return Seen::Refused(why.number());
-    }
+    state_fit::gate_reader(core, tables, store.len())?;
     if core.reports <= i {
-        return Seen::Nothing;
+        return Ok(None);
     }
     let x = words_report::report_at(tables, i);
-    let at = x.at;
     let address = adv_reports::address_of(x.who);
     let place = state_places::report_at(i);
-    let len = wide(x.len);
+    let len = usize::from(x.len);
     let response = response_in(i, x.response);
-    Seen::Is(AdvReport {
+    Ok(Some(AdvReport {
         address,
-        at,
+        at: x.at,
         channel: x.channel,
         pdu: x.pdu,
         data: Span { at: place, len },
         response,
-    })
+    }))
 }
 
 // ---- where its bytes stand
 
 // Where the advertising data of report i stands.
-pub fn report_data_at(core: Core, tables: &[u64; 1152], store: &[u8], i: usize) -> Spot
+pub fn report_data_at(
+    core: Core,
+    tables: &[u64; 1152],
+    store: &[u8],
+    i: usize,
+) -> Result<Option<Span>, Refusal>
     ensures { result ≡ data_seen (view (central core tables.now) (length store.now) i) }
 {
-    match report(core, tables, store, i) {
-        Seen::Refused(why) => Spot::Refused(why),
-        Seen::Nothing => Spot::Nothing,
-        Seen::Is(r) => {
-            let data = r.data;
-            Spot::At(data)
-        }
-    }
-}
-
-fn response_spot(x: Response) -> Spot
-    ensures { result ≡ response_spot x }
-{
-    match x {
-        Response::Nothing => Spot::Nothing,
-        Response::At(s) => Spot::At(s),
-    }
+    let seen = report(core, tables, store, i)?;
+    Ok(seen.map(|r| r.data))
 }
 
 // Where the scan response of report i stands: nowhere, if it has none.
-pub fn report_response_at(core: Core, tables: &[u64; 1152], store: &[u8], i: usize) -> Spot
+pub fn report_response_at(
+    core: Core,
+    tables: &[u64; 1152],
+    store: &[u8],
+    i: usize,
+) -> Result<Option<Span>, Refusal>
     ensures { result ≡ response_seen (view (central core tables.now) (length store.now) i) }
 {
-    match report(core, tables, store, i) {
-        Seen::Refused(why) => Spot::Refused(why),
-        Seen::Nothing => Spot::Nothing,
-        Seen::Is(r) => {
-            let response = r.response;
-            response_spot(response)
-        }
-    }
+    let seen = report(core, tables, store, i)?;
+    Ok(seen.and_then(|r| r.response))
 }
 
 // Where in the store the body of the structure stands that lists the service, of those in a part of the store.
@@ -125,42 +95,35 @@ fn search_in(store: &[u8], x: Span, uuid: Uuid) -> Option<Span>
     requires { x.at + x.len ≤ length store.now }
     ensures { result ≡ place_in (num uuid) store.now x }
 {
-    let from = x.at;
-    let to = from + x.len;
-    match adv_data::search(&store[from..to], uuid) {
-        Some(body) => {
-            let at = from + body.at;
-            Some(Span { at, len: body.len })
-        }
-        None => None,
-    }
+    let body = adv_data::search(part(store, x), uuid)?;
+    let at = x.at + body.at;
+    Some(Span { at, len: body.len })
 }
 
 // Of the structures in the data, or else in the answer.
-fn body_in(store: &[u8], data: Span, answer: Span, uuid: Uuid) -> Spot
+fn body_in(store: &[u8], data: Span, answer: Span, uuid: Uuid) -> Option<Span>
     requires { («data».at + «data».len ≤ length store.now) × (answer.at + answer.len ≤ length store.now) }
     ensures { result ≡ body_in (num uuid) store.now «data» answer }
 {
-    match search_in(store, data, uuid) {
-        Some(body) => Spot::At(body),
-        None => match search_in(store, answer, uuid) {
-            Some(body) => Spot::At(body),
-            None => Spot::Nothing,
-        },
-    }
+    search_in(store, data, uuid).or_else(|| search_in(store, answer, uuid))
 }
 
 // Where the body of the structure of report i stands that lists the service, of its data or else of its scan response: nowhere, if none does.
-pub fn report_body_at(core: Core, tables: &[u64; 1152], store: &[u8], i: usize, uuid: Uuid) -> Spot
+pub fn report_body_at(
+    core: Core,
+    tables: &[u64; 1152],
+    store: &[u8],
+    i: usize,
+    uuid: Uuid,
+) -> Result<Option<Span>, Refusal>
     ensures { result ≡ body_spot (num uuid) store.now (view (central core tables.now) (length store.now) i) }
 {
-    let x = report(core, tables, store, i);
-    let data = radio_sights::data_in(x);
-    let answer = radio_sights::answer_in(x);
-    match x {
-        Seen::Refused(why) => Spot::Refused(why),
-        Seen::Nothing => Spot::Nothing,
-        Seen::Is(_) => body_in(store, data, answer, uuid),
+    match report(core, tables, store, i)? {
+        Some(r) => {
+            let answer = radio_sights::span_of(r.response);
+            Ok(body_in(store, r.data, answer, uuid))
+        }
+        None => Ok(None),
     }
 }
 
@@ -171,11 +134,7 @@ fn presence_in(store: &[u8], data: Span, answer: Span, uuid: Uuid) -> Presence
     requires { («data».at + «data».len ≤ length store.now) × (answer.at + answer.len ≤ length store.now) }
     ensures { result ≡ presence_in (num uuid) (part store.now «data») (part store.now answer) }
 {
-    let from = data.at;
-    let to = from + data.len;
-    let begin = answer.at;
-    let end = begin + answer.len;
-    adv_presence::service_presence(&store[from..to], &store[begin..end], uuid)
+    adv_presence::service_presence(part(store, data), part(store, answer), uuid)
 }
 
 // Whether report i lists the service, does not, or cannot tell, by its data and its scan response.
@@ -185,23 +144,28 @@ pub fn report_presence(
     store: &[u8],
     i: usize,
     uuid: Uuid,
-) -> Sighting
+) -> Result<Option<Presence>, Refusal>
     ensures { result ≡ presence_seen (num uuid) store.now (view (central core tables.now) (length store.now) i) }
 {
-    let x = report(core, tables, store, i);
-    let data = radio_sights::data_in(x);
-    let answer = radio_sights::answer_in(x);
-    match x {
-        Seen::Refused(why) => Sighting::Refused(why),
-        Seen::Nothing => Sighting::Nothing,
-        Seen::Is(_) => {
-            let presence = presence_in(store, data, answer, uuid);
-            Sighting::Is(presence)
+    match report(core, tables, store, i)? {
+        Some(r) => {
+            let answer = radio_sights::span_of(r.response);
+            Ok(Some(presence_in(store, r.data, answer, uuid)))
         }
+        None => Ok(None),
     }
 }
 
 // ---- the bytes themselves
+
+// The bytes of a span of the store.
+fn part(store: &[u8], x: Span) -> &[u8]
+    requires { x.at + x.len ≤ length store.now }
+    ensures result_value { result.now ≡ part store.now x }
+    ensures ref_ptr_value { result.ref_ptr ≡ part_at store.entry.ref_ptr x }
+{
+    &store[x.at..x.at + x.len]
+}
 
 // The advertising data of report i, or no bytes.
 pub fn report_data<'a>(core: Core, tables: &[u64; 1152], store: &'a [u8], i: usize) -> &'a [u8]
@@ -209,9 +173,7 @@ pub fn report_data<'a>(core: Core, tables: &[u64; 1152], store: &'a [u8], i: usi
     ensures ref_ptr_value { result.ref_ptr ≡ part_at store.entry.ref_ptr (data_in (view (central core tables.now) (length store.now) i)) }
 {
     let x = radio_sights::data_in(report(core, tables, store, i));
-    let from = x.at;
-    let to = from + x.len;
-    &store[from..to]
+    part(store, x)
 }
 
 // The scan response of report i, or no bytes.
@@ -220,9 +182,7 @@ pub fn report_response<'a>(core: Core, tables: &[u64; 1152], store: &'a [u8], i:
     ensures ref_ptr_value { result.ref_ptr ≡ part_at store.entry.ref_ptr (answer_in (view (central core tables.now) (length store.now) i)) }
 {
     let x = radio_sights::answer_in(report(core, tables, store, i));
-    let from = x.at;
-    let to = from + x.len;
-    &store[from..to]
+    part(store, x)
 }
 
 // The body of the structure of report i that lists the service: of its data, or else of its scan response.

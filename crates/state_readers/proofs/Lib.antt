@@ -1,3 +1,2 @@
 pub mod ReaderLaws
-pub mod LentLaws
 pub mod PassedLaws

@@ -1,121 +1,151 @@
 -- What each return of the readers asks; each answer carries the gate's refusal exactly.
 use Prim.Native.Nat.{ℕ, ◌+◌, ◌≤◌, ◌<◌}
-use mathlib.Core.Path.{◌≡◌, refl, sym, ap, ◌∙◌}
-use mathlib.Core.Bool.{Bool, true, false, ◌&&◌}
+use mathlib.Core.Path.{◌≡◌, refl, sym, ap, ◌∙◌, subst}
+use mathlib.Core.Bool.{Bool, true, false}
 use mathlib.Core.List.{List, [], ◌∷◌}
 use native.Mathlib.Omega.{arith}
 use lib.ListN.{length, take, drop, get_or}
+use lib.Seq.{length-take-le}
 use lib.Dec.{eqb}
-use borrow.Author.Tests.{eq-eqb, ne_eqb, eqb-true}
+use borrow.Author.Tests.{eq-eqb, ne_eqb}
+use Rattle.std.specs.Prelude.{Option, None, Some, Ok, Err}
 use Rattle.bytes_base.specs.Choice.{pick}
-use Rattle.state_places.specs.Sizes.{most_results, result_at}
+use Rattle.state_places.specs.Sizes.{store_size, most_results, result_at}
 use Rattle.lists.proofs.ScanLaws.{rest-cons, rest-nil}
+use Rattle.lists.specs.First.{first}
+use Rattle.time.specs.declared.Micros.{Micros}
 use Rattle.state.specs.Central.{Central}
 use Rattle.state.specs.Fresh.{no_result}
-use Rattle.state.specs.declared.Bearer.{Bearer}
-use Rattle.state.specs.declared.Running.{Running}
 use Rattle.state.specs.declared.StepResult.{StepResult}
-use Rattle.state.specs.declared.Results.{Results}
-use Rattle.state_rules.specs.Fit.{kept}
-use Rattle.state_rules.specs.Refusals.{accepted}
+use Rattle.state_refusals.specs.declared.Refusal.{Refusal}
+use Rattle.state_refusals.specs.Refusals.{accepted, number}
+use Rattle.state_refusals.specs.Refused.{refusal_number}
+use Rattle.state_rules.specs.Fit.{fits, kept}
 use Rattle.state_rules.specs.Gate.{gate_reader}
-use Rattle.state_rules.proofs.GateLaws.{passed-reader, refuses, accepts}
-use Rattle.state_readers.specs.declared.Timer.{Timer}
-use Rattle.state_readers.specs.declared.Timer.TheVariants as timer-variants
-use Rattle.state_readers.specs.declared.Handle.{Handle}
-use Rattle.state_readers.specs.declared.Handle.TheVariants as handle-variants
+use Rattle.state_rules.proofs.GateLaws.{passed-reader}
+use Rattle.state_rules.proofs.PastGate.{refuses-by, tells-by, refusal-by}
 use Rattle.state_readers.specs.declared.Given.{Given}
-use Rattle.state_readers.specs.declared.Given.TheVariants as given-variants
-use Rattle.state_readers.specs.Readers.{timer_of, timer, handle_of, handle, given, result_answer, timer_refusal, handle_refusal, given_refusal}
+use Rattle.state_readers.specs.Readers.{span, timer_of, timer, handle_of, handle, given, find, result_answer, heard_by}
 
 -- ---- the two ways past the gate
 
-pub timer-refused : (c : Central) (store why : ℕ) → why ≡ gate_reader c store → (why ≡ 0 → ⊥) → timer-variants.Refused why ≡ timer c store
-unfolding timer
-timer-refused c store why e n = refuses why (gate_reader c store) timer-variants.Refused (timer_of c.running) e n
+module _ (c : Central) (store : ℕ) where
+  pub timer-refused : (why : Refusal) → number why ≡ gate_reader c store → Err why ≡ timer c store
+  unfolding timer
+  timer-refused why e = refuses-by (gate_reader c store) (timer_of c.running) why e
 
-pub timer-told : (c : Central) (store why : ℕ) (r : Running) (x : Timer) → why ≡ gate_reader c store → why ≡ 0 → r ≡ c.running → x ≡ timer_of r → x ≡ timer c store
-unfolding timer
-timer-told c store why r x e z f g = accepts why (gate_reader c store) timer-variants.Refused (timer_of c.running) e x z (g ∙ ap timer_of f)
+  pub timer-told : accepted ≡ gate_reader c store → (x : Option Micros) → x ≡ timer_of c.running → Ok x ≡ timer c store
+  unfolding timer
+  timer-told e x f = tells-by (gate_reader c store) (timer_of c.running) x e f
 
-pub handle-refused : (c : Central) (store why : ℕ) → why ≡ gate_reader c store → (why ≡ 0 → ⊥) → handle-variants.Refused why ≡ handle c store
-unfolding handle
-handle-refused c store why e n = refuses why (gate_reader c store) handle-variants.Refused (handle_of c.bearer) e n
+  pub handle-refused : (why : Refusal) → number why ≡ gate_reader c store → Err why ≡ handle c store
+  unfolding handle
+  handle-refused why e = refuses-by (gate_reader c store) (handle_of c.bearer) why e
 
-pub handle-told : (c : Central) (store why : ℕ) (b : Bearer) (x : Handle) → why ≡ gate_reader c store → why ≡ 0 → b ≡ c.bearer → x ≡ handle_of b → x ≡ handle c store
-unfolding handle
-handle-told c store why b x e z f g = accepts why (gate_reader c store) handle-variants.Refused (handle_of c.bearer) e x z (g ∙ ap handle_of f)
+  pub handle-told : accepted ≡ gate_reader c store → (x : Option ℕ) → x ≡ handle_of c.bearer → Ok x ≡ handle c store
+  unfolding handle
+  handle-told e x f = tells-by (gate_reader c store) (handle_of c.bearer) x e f
 
-pub result_answer-refused : (c : Central) (store index why : ℕ) → why ≡ gate_reader c store → (why ≡ 0 → ⊥) → given-variants.Refused why ≡ result_answer c store index
-unfolding result_answer
-result_answer-refused c store index why e n = refuses why (gate_reader c store) given-variants.Refused (given index 0 (kept c.results)) e n
+  pub result-refused : (index : ℕ) (why : Refusal) → number why ≡ gate_reader c store → Err why ≡ result_answer c store index
+  unfolding result_answer
+  result-refused index why e = refuses-by (gate_reader c store) (given index 0 (kept c.results)) why e
 
-pub result_answer-told : (c : Central) (store index why : ℕ) (rs : Results) (x : Given) → why ≡ gate_reader c store → why ≡ 0 → rs ≡ c.results → x ≡ given index 0 (kept rs) → x ≡ result_answer c store index
-unfolding result_answer
-result_answer-told c store index why rs x e z f g = accepts why (gate_reader c store) given-variants.Refused (given index 0 (kept c.results)) e x z (g ∙ ap (λ (y : Results). given index 0 (kept y)) f)
+  -- what the gate has shown of the results
+  pub few-results : accepted ≡ gate_reader c store → c.results.count ≤ most_results
+  few-results e = (passed-reader c store (sym e)).fit.head.results
 
--- what the gate has shown of the results
-pub few-results : (c : Central) (store why : ℕ) (rs : Results) → why ≡ gate_reader c store → why ≡ 0 → rs ≡ c.results → rs.count ≤ most_results
-few-results c store why rs e z f =
-    let n : rs.count ≡ c.results.count = ap (λ (y : Results). y.count) f in
-    omega (arith, (passed-reader c store (sym e ∙ z)).fit.head.results)
+-- ---- the search among the first n of l, by what is left of it from place i on
 
--- ---- the search: `all` is what is looked for, given by what is left of it from place i on
+module _ (index : ℕ) (l : List StepResult) (n i : ℕ) (k : n ≤ length l) (rest : find index 0 (take n l) ≡ find index i (drop i (take n l))) where
+  pub find-end : n ≤ i → None ≡ find index 0 (take n l)
+  unfolding find
+  find-end h = rw (rest, rest-nil l n i h k)
 
-module _ (index : ℕ) (l : List StepResult) (n i : ℕ) (all : Given) (rest : all ≡ given index i (drop i (take n l))) (k : n ≤ length l) where
-  pub given-here : (p m : ℕ) → i < n → (get_or l i no_result).index ≡ index → p ≡ result_at i → m ≡ (get_or l i no_result).len
-      → given-variants.Is (get_or l i no_result).at (get_or l i no_result).status p m ≡ all
-  unfolding given
-  given-here p m h e f g = rw (rest, rest-cons l n i no_result h k, eq-eqb (get_or l i no_result).index index e, f, g)
+  module _ (x : StepResult) (e : x ≡ get_or l i no_result) (h : i < n) where
+    pub find-here : x.index ≡ index → Some (i, x) ≡ find index 0 (take n l)
+    unfolding find
+    find-here f = rw (rest, rest-cons l n i no_result h k, ← e, eq-eqb x.index index f)
 
-  pub given-on : i < n → ((get_or l i no_result).index ≡ index → ⊥) → all ≡ given index (i + 1) (drop (i + 1) (take n l))
-  unfolding given
-  given-on h e = rw (rest, rest-cons l n i no_result h k, ne_eqb (get_or l i no_result).index index e)
+    pub find-on : (x.index ≡ index → ⊥) → find index 0 (take n l) ≡ find index (i + 1) (drop (i + 1) (take n l))
+    unfolding find
+    find-on f = rw (rest, rest-cons l n i no_result h k, ← e, ne_eqb x.index index f)
 
-  pub given-end : n ≤ i → given-variants.Nothing ≡ all
-  unfolding given
-  given-end h = rw (rest, rest-nil l n i h k)
+-- ---- what is found is what is given and heard
 
--- ---- the refusal of an answer is the gate's
+abbrev given_at : Option (ℕ × StepResult) → Option Given
+given_at None = None
+given_at (Some p) = Some (record { at = p.1.at; status = p.1.status; value = span (result_at p.0) p.1.len })
 
-pub timer-refusal : (c : Central) (store : ℕ) → timer_refusal (timer c store) ≡ gate_reader c store
-unfolding timer
-timer-refusal c store = go (eqb (gate_reader c store) 0) refl (r.active && r.dated)
+abbrev heard_at : Option (ℕ × StepResult) → ℕ
+heard_at None = 0
+heard_at (Some p) = p.1.heard
+
+-- it is one of l, which stand from place i on
+abbrev Below : ℕ → Option (ℕ × StepResult) → Type 0
+Below n None = Unit {0}
+Below n (Some p) = p.0 < n
+
+given-by-find : (index i : ℕ) (l : List StepResult) → given_at (find index i l) ≡ given index i l
+unfolding find given
+given-by-find index i [] = refl
+given-by-find index i (x ∷ l) = go (eqb x.index index) (given-by-find index (i + 1) l)
   where
-    r : Running
-    r = c.running
-
-    go : (b : Bool) → eqb (gate_reader c store) 0 ≡ b → (d : Bool)
-        → timer_refusal (pick b (pick d (timer-variants.At r.deadline) timer-variants.Never) (timer-variants.Refused (gate_reader c store))) ≡ gate_reader c store
-    go true e true = sym (eqb-true (gate_reader c store) 0 e)
-    go true e false = sym (eqb-true (gate_reader c store) 0 e)
-    go false e d = refl
-
-pub handle-refusal : (c : Central) (store : ℕ) → handle_refusal (handle c store) ≡ gate_reader c store
-unfolding handle
-handle-refusal c store = go (eqb (gate_reader c store) 0) refl c.bearer.present
-  where
-    go : (b : Bool) → eqb (gate_reader c store) 0 ≡ b → (d : Bool)
-        → handle_refusal (pick b (pick d (handle-variants.Is c.bearer.link.handle) handle-variants.Absent) (handle-variants.Refused (gate_reader c store))) ≡ gate_reader c store
-    go true e true = sym (eqb-true (gate_reader c store) 0 e)
-    go true e false = sym (eqb-true (gate_reader c store) 0 e)
-    go false e d = refl
-
-given-accepted : (index i : ℕ) (l : List StepResult) → given_refusal (given index i l) ≡ accepted
-unfolding given
-given-accepted index i [] = refl
-given-accepted index i (x ∷ l) = go (eqb x.index index) (given-accepted index (i + 1) l)
-  where
-    go : (b : Bool) → given_refusal (given index (i + 1) l) ≡ accepted
-        → given_refusal (pick b (given-variants.Is x.at x.status (result_at i) x.len) (given index (i + 1) l)) ≡ accepted
+    go : (b : Bool) → given_at (find index (i + 1) l) ≡ given index (i + 1) l
+        → given_at (pick b (Some (i, x)) (find index (i + 1) l))
+        ≡ pick b (Some (record { at = x.at; status = x.status; value = span (result_at i) x.len })) (given index (i + 1) l)
     go true e = refl
     go false e = e
 
-pub result_answer-refusal : (c : Central) (store index : ℕ) → given_refusal (result_answer c store index) ≡ gate_reader c store
-unfolding result_answer
-result_answer-refusal c store index = go (eqb (gate_reader c store) 0) refl
+heard-by-find : (index i : ℕ) (l : List StepResult) → heard_at (find index i l) ≡ heard_by index l
+unfolding find first
+heard-by-find index i [] = refl
+heard-by-find index i (x ∷ l) = go (eqb x.index index) (heard-by-find index (i + 1) l)
   where
-    go : (b : Bool) → eqb (gate_reader c store) 0 ≡ b
-        → given_refusal (pick b (given index 0 (kept c.results)) (given-variants.Refused (gate_reader c store))) ≡ gate_reader c store
-    go true e = given-accepted index 0 (kept c.results) ∙ sym (eqb-true (gate_reader c store) 0 e)
-    go false e = refl
+    go : (b : Bool) → heard_at (find index (i + 1) l) ≡ heard_by index l
+        → heard_at (pick b (Some (i, x)) (find index (i + 1) l)) ≡ pick b x.heard (heard_by index l)
+    go true e = refl
+    go false e = e
+
+find-below : (index i n : ℕ) (l : List StepResult) → i + length l ≤ n → Below n (find index i l)
+unfolding find
+find-below index i n [] h = tt
+find-below index i n (x ∷ l) h = go (eqb x.index index) (omega arith) (find-below index (i + 1) n l (omega arith))
+  where
+    go : (b : Bool) → i < n → Below n (find index (i + 1) l) → Below n (pick b (Some (i, x)) (find index (i + 1) l))
+    go true k e = k
+    go false k e = e
+
+-- the place found is one of the table
+pub found-below : (index n : ℕ) (l : List StepResult) (p : ℕ × StepResult) → n ≤ length l → Some p ≡ find index 0 (take n l) → p.0 < n
+found-below index n l p k e = subst (Below n) (sym e) (find-below index 0 n (take n l) (omega (arith, length-take-le n l k)))
+
+pub heard-found : (index : ℕ) (l : List StepResult) (p : ℕ × StepResult) → Some p ≡ find index 0 l → p.1.heard ≡ heard_by index l
+heard-found index l p e = ap heard_at e ∙ heard-by-find index 0 l
+
+pub heard-none : (index : ℕ) (l : List StepResult) → None ≡ find index 0 l → 0 ≡ heard_by index l
+heard-none index l e = ap heard_at e ∙ heard-by-find index 0 l
+
+module _ (c : Central) (store index : ℕ) (e : accepted ≡ gate_reader c store) where
+  pub result-found : (p : ℕ × StepResult) → Some p ≡ find index 0 (kept c.results)
+      → Ok (Some (record { at = p.1.at; status = p.1.status; value = span (result_at p.0) p.1.len })) ≡ result_answer c store index
+  unfolding result_answer
+  result-found p f = tells-by (gate_reader c store) (given index 0 (kept c.results)) _ e (ap given_at f ∙ given-by-find index 0 (kept c.results))
+
+  pub result-none : None ≡ find index 0 (kept c.results) → Ok None ≡ result_answer c store index
+  unfolding result_answer
+  result-none f = tells-by (gate_reader c store) (given index 0 (kept c.results)) None e (ap given_at f ∙ given-by-find index 0 (kept c.results))
+
+-- ---- the refusal of an answer is the gate's
+
+module _ (c : Central) (store : ℕ) where
+  pub timer-refusal : refusal_number (timer c store) ≡ gate_reader c store
+  unfolding timer
+  timer-refusal = refusal-by (timer_of c.running) (fits c) (eqb store store_size) true
+
+  pub handle-refusal : refusal_number (handle c store) ≡ gate_reader c store
+  unfolding handle
+  handle-refusal = refusal-by (handle_of c.bearer) (fits c) (eqb store store_size) true
+
+  pub result_answer-refusal : (index : ℕ) → refusal_number (result_answer c store index) ≡ gate_reader c store
+  unfolding result_answer
+  result_answer-refusal index = refusal-by (given index 0 (kept c.results)) (fits c) (eqb store store_size) true

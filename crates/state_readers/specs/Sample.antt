@@ -1,5 +1,5 @@
 -- Worked answers of `passed_on` (02, One): four steps ended, and the notifications of numbers 40 to 42 are kept.
-use Rattle.std.specs.Prelude.{ℕ, ◌≡◌, refl, Bool, true, false, List, [], ◌∷◌}
+use Rattle.std.specs.Prelude.{ℕ, ◌≡◌, refl, Bool, true, false, List, [], ◌∷◌, Ok}
 use Rattle.lists.specs.First.{first}
 use Rattle.notifications.specs.declared.Notification.{Notification}
 use Rattle.state.specs.declared.StepResult.{StepResult}
@@ -22,7 +22,7 @@ abbrev notices : List Notification
 notices = notice 1000 false ∷ notice 2000 false ∷ notice 3000 true ∷ []
 
 abbrev tells : ℕ → List ℕ
-tells index = passed_words (named 40 notices (heard_by index results))
+tells index = passed_words (Ok (named 40 notices (heard_by index results)))
 
 -- none is named; the oldest and the newest that are kept; one that is not kept any more; a step without a result
 pub sample :

@@ -3,138 +3,107 @@
 
 ghost use Rattle.std.specs.Prelude.{◌≡◌, ◌≤◌, length, take};
 ghost use Rattle.state_places.specs.Sizes.{most_results, most_notifications};
-ghost use Rattle.state_readers.specs.Readers.{timer_of, timer, handle_of, handle, given, result_answer, heard_by, named, passed_on};
+ghost use Rattle.state_readers.specs.Readers.{timer_of, timer, handle_of, handle, find, result_answer, heard_by, named, passed_on};
 ghost use Rattle.words.specs.Tables.{results_in, notifications_in};
 ghost use Rattle.state_core.specs.Reading.{central};
 
-use state::{Bearer, Running, StepStatus};
+use bytes_bounds::Span;
+use state::{Bearer, Running, StepResult, StepStatus};
 use state_core::Core;
+use state_refusals::Refusal;
 use time::Micros;
 
+// A result, with where in the store its value stands.
 #[derive(Clone, Copy)]
-pub enum Timer {
-    Refused(u8),
-    Never,
-    At(Micros),
+pub struct Given {
+    pub at: Micros,
+    pub status: StepStatus,
+    pub value: Span,
 }
 
+// A notification, with where in the store its value stands.
 #[derive(Clone, Copy)]
-pub enum Handle {
-    Refused(u8),
-    Absent,
-    Is(u16),
+pub struct Passed {
+    pub at: Micros,
+    pub link: u64,
+    pub handle: u16,
+    pub indication: bool,
+    pub value: Span,
 }
 
-// A result's value is the len bytes of the store from place on.
-#[derive(Clone, Copy)]
-pub enum Given {
-    Refused(u8),
-    Nothing,
-    Is {
-        at: Micros,
-        status: StepStatus,
-        place: usize,
-        len: usize,
-    },
-}
-
-// A notification's value is the len bytes of the store from place on.
-#[derive(Clone, Copy)]
-pub enum Passed {
-    Refused(u8),
-    Nothing,
-    Is {
-        at: Micros,
-        link: u64,
-        handle: u16,
-        indication: bool,
-        place: usize,
-        len: usize,
-    },
-}
-
-fn timer_of(r: Running) -> Timer
+fn timer_of(r: Running) -> Option<Micros>
     ensures { result ≡ timer_of r }
 {
-    let at = r.deadline;
     if r.active & r.dated {
-        return Timer::At(at);
+        Some(r.deadline)
+    } else {
+        None
     }
-    Timer::Never
 }
+
+// Kept: core, tables and store as three parameters, here and in the views; the exports to C and the calls by value own them apart.
 
 // When the running step is to be ended by a timer call, if ever.
-pub fn timer_us(core: Core, tables: &[u64; 1152], store: &[u8]) -> Timer
+pub fn timer_us(core: Core, tables: &[u64; 1152], store: &[u8]) -> Result<Option<Micros>, Refusal>
     ensures { result ≡ timer (central core tables.now) (length store.now) }
 {
-    if let Err(why) = state_fit::gate_reader(core, tables, store.len()) {
-        return Timer::Refused(why.number());
-    }
-    let running = core.running;
-    timer_of(running)
+    state_fit::gate_reader(core, tables, store.len())?;
+    Ok(timer_of(core.running))
 }
 
-fn handle_of(b: Bearer) -> Handle
+fn handle_of(b: Bearer) -> Option<u16>
     ensures { result ≡ handle_of b }
 {
-    let link = b.link;
-    if b.present {
-        return Handle::Is(link.handle);
-    }
-    Handle::Absent
+    if b.present { Some(b.link.handle) } else { None }
 }
 
 // The handle of the link, if there is one.
-pub fn connected_handle(core: Core, tables: &[u64; 1152], store: &[u8]) -> Handle
+pub fn connected_handle(
+    core: Core,
+    tables: &[u64; 1152],
+    store: &[u8],
+) -> Result<Option<u16>, Refusal>
     ensures { result ≡ handle (central core tables.now) (length store.now) }
 {
-    if let Err(why) = state_fit::gate_reader(core, tables, store.len()) {
-        return Handle::Refused(why.number());
-    }
-    let bearer = core.bearer;
-    handle_of(bearer)
+    state_fit::gate_reader(core, tables, store.len())?;
+    Ok(handle_of(core.bearer))
 }
 
-fn wide(x: u8) -> usize
-    ensures { result ≡ x }
-{
-    x as usize
-}
-
-// The first of an index.
-fn find(tables: &[u64; 1152], count: usize, index: u32) -> Given
+// The first of the kept results that has the index, with its place.
+fn find(tables: &[u64; 1152], count: usize, index: u32) -> Option<(usize, StepResult)>
     requires { count ≤ most_results }
-    ensures { result ≡ given index 0 (take count (results_in tables.now)) }
+    ensures { result ≡ find index 0 (take count (results_in tables.now)) }
 {
-    let mut i = 0;
-    while i < count {
+    for i in 0..count {
         let x = words_result::result_at(tables, i);
         if x.index == index {
-            let at = x.at;
-            let status = x.status;
-            let place = state_places::result_at(i);
-            let len = wide(x.len);
-            return Given::Is {
-                at,
-                status,
-                place,
-                len,
-            };
+            return Some((i, x));
         }
-        i += 1;
     }
-    Given::Nothing
+    None
 }
 
 // The kept result of an index.
-pub fn result(core: Core, tables: &[u64; 1152], store: &[u8], index: u32) -> Given
+pub fn result(
+    core: Core,
+    tables: &[u64; 1152],
+    store: &[u8],
+    index: u32,
+) -> Result<Option<Given>, Refusal>
     ensures { result ≡ result_answer (central core tables.now) (length store.now) index }
 {
-    if let Err(why) = state_fit::gate_reader(core, tables, store.len()) {
-        return Given::Refused(why.number());
+    state_fit::gate_reader(core, tables, store.len())?;
+    match find(tables, core.counts.results, index) {
+        Some((i, x)) => Ok(Some(Given {
+            at: x.at,
+            status: x.status,
+            value: Span {
+                at: state_places::result_at(i),
+                len: usize::from(x.len),
+            },
+        })),
+        None => Ok(None),
     }
-    let counts = core.counts;
-    find(tables, counts.results, index)
 }
 
 // What the first of an index heard; 0 where none of it is kept.
@@ -142,55 +111,49 @@ fn heard_by(tables: &[u64; 1152], count: usize, index: u32) -> u64
     requires { count ≤ most_results }
     ensures { result ≡ heard_by index (take count (results_in tables.now)) }
 {
-    let mut i = 0;
-    while i < count {
-        let x = words_result::result_at(tables, i);
-        if x.index == index {
-            return x.heard;
-        }
-        i += 1;
+    match find(tables, count, index) {
+        Some((_, x)) => x.heard,
+        None => 0,
     }
-    0
 }
 
 // The notification that `heard` is one past the number of, if it is one of the count kept, which have the numbers from `first` on.
-fn named(tables: &[u64; 1152], count: usize, first: u64, heard: u64) -> Passed
+fn named(tables: &[u64; 1152], count: usize, first: u64, heard: u64) -> Option<Passed>
     requires { count ≤ most_notifications }
     ensures { result ≡ named first (take count (notifications_in tables.now)) heard }
 {
     if heard <= first {
-        return Passed::Nothing;
+        return None;
     }
-    let number = heard - 1;
-    let i = (number - first) as usize;
+    let i = (heard - 1 - first) as usize;
     if count <= i {
-        return Passed::Nothing;
+        return None;
     }
     let x = words_notification::notification_at(tables, i);
-    let at = x.at;
-    let place = state_places::notification_at(i);
-    let len = wide(x.len);
-    Passed::Is {
-        at,
+    Some(Passed {
+        at: x.at,
         link: x.link,
         handle: x.handle,
         indication: x.indication,
-        place,
-        len,
-    }
+        value: Span {
+            at: state_places::notification_at(i),
+            len: usize::from(x.len),
+        },
+    })
 }
 
 // The notification that the kept result of an index names: an aged wait's, which passed on it.
-pub fn passed_on(core: Core, tables: &[u64; 1152], store: &[u8], index: u32) -> Passed
+pub fn passed_on(
+    core: Core,
+    tables: &[u64; 1152],
+    store: &[u8],
+    index: u32,
+) -> Result<Option<Passed>, Refusal>
     ensures { result ≡ passed_on (central core tables.now) (length store.now) index }
 {
-    if let Err(why) = state_fit::gate_reader(core, tables, store.len()) {
-        return Passed::Refused(why.number());
-    }
+    state_fit::gate_reader(core, tables, store.len())?;
     let counts = core.counts;
-    let counters = core.counters;
     let heard = heard_by(tables, counts.results, index);
-    let kept = counts.notifications as u64;
-    let first = counters.notified - kept;
-    named(tables, counts.notifications, first, heard)
+    let first = core.counters.notified - counts.notifications as u64;
+    Ok(named(tables, counts.notifications, first, heard))
 }

@@ -1,2 +1,3 @@
 pub mod FitLaws
 pub mod GateLaws
+pub mod PastGate

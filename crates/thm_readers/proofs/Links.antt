@@ -33,8 +33,8 @@ use Rattle.l2cap.specs.Numbers.{cid_att}
 use Rattle.link_rules.specs.Payload.{payload}
 use Rattle.link_rules.specs.Channel.{on_channel}
 use Rattle.link_rules.specs.Fragment.{dropped, gathered, frame_length, frame_channel, whole as whole-frame, with_held}
-use Rattle.state_readers.specs.declared.Handle.{Handle}
-use Rattle.state_readers.specs.declared.Handle.TheVariants.{Absent, Is, Refused}
+use Rattle.std.specs.Prelude.{Option, None, Some, Ok}
+use Rattle.state_refusals.specs.Refused.{refused}
 use Rattle.state_readers.specs.Readers.{handle_of, handle}
 use Rattle.state_readers.specs.Numbers.{handle_words}
 use Rattle.thm_trail.specs.Calls.{connected_handle, Call, batch, timer, connected, disconnected, advertising, scan_response, fragment, reads, does, left, fresh, run, gate_of, done?}
@@ -50,7 +50,7 @@ use Rattle.thm_accounting.proofs.Books.{Books, whole, whole_take, sound-hop, boo
 use Rattle.thm_accounting.proofs.Accounting.{books-fresh, books-begins, books-call, put_all}
 use Rattle.thm_readers.specs.Said.{said, link_by, refusals, link_after}
 
-abbrev link_of : Held → Handle
+abbrev link_of : Held → Option ℕ
 link_of h = handle_of h.state.bearer
 
 same-link : (b d : Bearer) → b.present ≡ d.present → b.link.handle ≡ d.link.handle → handle_of b ≡ handle_of d
@@ -58,13 +58,13 @@ same-link b d e f = rw (e, f)
 
 -- ---- what came in decides
 
-abbrev by_news : List News → Handle → Handle
+abbrev by_news : List News → Option ℕ → Option ℕ
 by_news [] x = x
-by_news (link-came n ∷ ns) x = by_news ns (Is n)
-by_news (link-went ∷ ns) x = by_news ns Absent
+by_news (link-came n ∷ ns) x = by_news ns (Some n)
+by_news (link-went ∷ ns) x = by_news ns None
 by_news (att-heard p ∷ ns) x = by_news ns x
 
-abbrev by_trail : List Pass → Handle → Handle
+abbrev by_trail : List Pass → Option ℕ → Option ℕ
 by_trail [] x = x
 by_trail (p ∷ ps) x = by_trail ps (by_news p.came x)
 
@@ -78,7 +78,7 @@ gives-link h g x = go (same x)
     go : Same h g → link_of g ≡ link_of h
     go s = same-link g.state.bearer h.state.bearer s.present s.handle
 
-payload-news : (channel : ℕ) (p : List ℕ) (x : Handle) → by_news (came_on channel p) x ≡ x
+payload-news : (channel : ℕ) (p : List ℕ) (x : Option ℕ) → by_news (came_on channel p) x ≡ x
 payload-news channel p x = go (eqb channel cid_att)
   where
     go : (b : Bool) → by_news (pick b (att-heard p ∷ []) []) x ≡ x
@@ -104,7 +104,7 @@ link-hops l q (more {w} {p} {ps} x xs) s b =
 
 -- ---- the trails
 
-onwards-news : (n : ℕ) (w : World) (at : Micros) (x : Handle) → by_trail (onwards n w at) x ≡ x
+onwards-news : (n : ℕ) (w : World) (at : Micros) (x : Option ℕ) → by_trail (onwards n w at) x ≡ x
 unfolding onwards
 onwards-news zero w at x = refl
 onwards-news (suc n) w at x = go (can_go w.held.state) (onwards-news n (step_once w at) at x)
@@ -113,10 +113,10 @@ onwards-news (suc n) w at x = go (can_go w.held.state) (onwards-news n (step_onc
     go true ih = ih
     go false ih = refl
 
-onward-news : (w : World) (at : Micros) (x : Handle) → by_trail (onward w at) x ≡ x
+onward-news : (w : World) (at : Micros) (x : Option ℕ) → by_trail (onward w at) x ≡ x
 onward-news w at x = onwards-news w.held.state.queue.count w at x
 
-timer-news : (w : World) (at : Micros) (x : Handle) → by_trail (timer_trail w at) x ≡ x
+timer-news : (w : World) (at : Micros) (x : Option ℕ) → by_trail (timer_trail w at) x ≡ x
 unfolding timer_trail
 timer-news w at x = go (due w.held.state.running at) _ _
   where
@@ -124,23 +124,23 @@ timer-news w at x = go (due w.held.state.running at) _ _
     go true u v = onward-news v at x
     go false u v = refl
 
-connected-news : (w : World) (handle : ℕ) (at : Micros) (x : Handle) → by_trail (connected_trail w handle at) x ≡ Is handle
+connected-news : (w : World) (handle : ℕ) (at : Micros) (x : Option ℕ) → by_trail (connected_trail w handle at) x ≡ Some handle
 unfolding connected_trail
 connected-news w handle at x = go (is_connect w.held.state.running.step) _ _
   where
-    go : (b : Bool) (v u : World) → by_trail (pick b (then_onward v at) (onward u at)) (Is handle) ≡ Is handle
-    go true v u = onward-news v at (Is handle)
-    go false v u = onward-news u at (Is handle)
+    go : (b : Bool) (v u : World) → by_trail (pick b (then_onward v at) (onward u at)) (Some handle) ≡ Some handle
+    go true v u = onward-news v at (Some handle)
+    go false v u = onward-news u at (Some handle)
 
-disconnected-news : (w : World) (at : Micros) (x : Handle) → by_trail (disconnected_trail w at) x ≡ Absent
+disconnected-news : (w : World) (at : Micros) (x : Option ℕ) → by_trail (disconnected_trail w at) x ≡ None
 unfolding disconnected_trail
 disconnected-news w at x = go (goes_on w.held.state.running.step) _ _
   where
-    go : (b : Bool) (u v : World) → by_trail (pick b (onward u at) (then_onward v at)) Absent ≡ Absent
-    go true u v = onward-news u at Absent
-    go false u v = onward-news v at Absent
+    go : (b : Bool) (u v : World) → by_trail (pick b (onward u at) (then_onward v at)) None ≡ None
+    go true u v = onward-news u at None
+    go false u v = onward-news v at None
 
-fragment-news : (w : World) (at : Micros) (start : Bool) (piece : List ℕ) (x : Handle) → by_trail (fragment_trail w at start piece) x ≡ x
+fragment-news : (w : World) (at : Micros) (start : Bool) (piece : List ℕ) (x : Option ℕ) → by_trail (fragment_trail w at start piece) x ≡ x
 unfolding fragment_trail
 fragment-news w at start piece x = go (dropped w.held.state.bearer start) (whole-frame v.held)
   where
@@ -164,7 +164,7 @@ fragment-news w at start piece x = go (dropped w.held.state.bearer start) (whole
     go false true = onward-news y at (by_news (came_on channel p) x) ∙ payload-news channel p x
     go false false = refl
 
-call-news : (h : Held) (c : Call) (x : Handle) → by_trail (goes h c) x ≡ link_by c x
+call-news : (h : Held) (c : Call) (x : Option ℕ) → by_trail (goes h c) x ≡ link_by c x
 call-news h (batch out at b values) x = onward-news (begins h (batch out at b values)) at x
 call-news h (timer out at) x = timer-news (begins h (timer out at)) at x
 call-news h (connected out handle at) x = connected-news (begins h (connected out handle at)) handle at x
@@ -241,7 +241,7 @@ link-run : (l : List (Valued StepResult)) (q : List Queued) (h : Held) (cs : Lis
 link-run l q h [] b = refl
 link-run l q h (c ∷ cs) b =
     link-run (l ++ given_by h c) (q ++ takes_in h c) (left (does h c)) cs (books-call l q h c b)
-    ∙ ap (λ (x : Handle). link_after x cs (refusals (left (does h c)) cs)) (link-call l q h c b)
+    ∙ ap (λ (x : Option ℕ). link_after x cs (refusals (left (does h c)) cs)) (link-call l q h c b)
 
 sized-run : (l : List (Valued StepResult)) (q : List Queued) (h : Held) (cs : List Call) → Books l q h → length h.store ≡ store_size → length (run h cs).store ≡ store_size
 sized-run l q h [] b z = z
@@ -254,9 +254,9 @@ answers options store cs f z =
     opens (fits h.state) (eqb (length h.store) store_size) true f (eq-eqb (length h.store) store_size (sized-run [] [] (fresh options store) cs (books-fresh options store) z)) refl
 
 pub handle-said : (options : Options) (store : List ℕ) (cs : List Call) → let h = run (fresh options store) cs in gate_reader h.state (length h.store) ≡ 0
-    → said h connected_handle ≡ handle_words (link_after Absent cs (refusals (fresh options store) cs))
+    → said h connected_handle ≡ handle_words (Ok (link_after None cs (refusals (fresh options store) cs)))
 unfolding handle fresh_central
 handle-said options store cs e =
     let h = run (fresh options store) cs in
-    ap (λ (b : Bool). handle_words (pick b (link_of h) (Refused (gate_reader h.state (length h.store))))) (eq-eqb (gate_reader h.state (length h.store)) 0 e)
+    ap (λ (b : Bool). handle_words (pick b (Ok (link_of h)) (refused (gate_reader h.state (length h.store))))) (eq-eqb (gate_reader h.state (length h.store)) 0 e)
     ∙ ap handle_words (link-run [] [] (fresh options store) cs (books-fresh options store))

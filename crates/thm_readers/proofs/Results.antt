@@ -16,19 +16,17 @@ use Rattle.lists.proofs.BlockLaws.{length-valued}
 use Rattle.lists.proofs.ScanLaws.{all_head, all_tail}
 use Rattle.state.specs.Fresh.{no_result}
 use Rattle.state.specs.declared.StepResult.{StepResult}
+use Rattle.time.specs.declared.Micros.{Micros}
 use Rattle.state_rules.specs.Gate.{gate_reader}
 use Rattle.state_rules.proofs.GateLaws.{passed-reader}
 use Rattle.script_rules.specs.World.{Held}
 use Rattle.script_rules.specs.Finish.{result_part, kept}
-use Rattle.state_readers.specs.declared.Timer.{Timer}
-use Rattle.state_readers.specs.declared.Timer.TheVariants as timer-variants
-use Rattle.state_readers.specs.declared.Handle.{Handle}
-use Rattle.state_readers.specs.declared.Handle.TheVariants as handle-variants
+use Rattle.state_refusals.specs.Refused.{refused, refusal_number}
+use Rattle.std.specs.Prelude.{Option, None, Some, Result, Ok, Err}
 use Rattle.state_readers.specs.declared.Given.{Given}
-use Rattle.state_readers.specs.declared.Given.TheVariants as given-variants
 use Rattle.state_readers.specs.declared.Passed.{Passed}
-use Rattle.state_readers.specs.declared.Passed.TheVariants as passed-variants
-use Rattle.state_readers.specs.Readers.{timer_of, timer, handle, given, result_answer, timer_refusal, handle_refusal, given_refusal, passed_refusal}
+use Rattle.state_refusals.specs.declared.Refusal.{Refusal}
+use Rattle.state_readers.specs.Readers.{span, timer_of, timer, handle, given, result_answer}
 use Rattle.state_readers.specs.Readers as readers
 use Rattle.state_readers.proofs.ReaderLaws.{timer-refusal, handle-refusal, result_answer-refusal}
 use Rattle.state_readers.proofs.PassedLaws.{passed-refusal}
@@ -43,12 +41,16 @@ use Rattle.thm_readers.specs.Said.{said, nothing, deadline_of, Shows, SaysResult
 pub timer-said : (h : Held) → gate_reader h.state (length h.store) ≡ 0 → said h timer_us ≡ deadline_of h.state.running
 unfolding timer
 timer-said h e =
-    ap (λ (b : Bool). timer_words (pick b (timer_of h.state.running) (timer-variants.Refused (gate_reader h.state (length h.store))))) (eq-eqb (gate_reader h.state (length h.store)) 0 e)
+    ap (λ (b : Bool). timer_words (pick b (Ok (timer_of h.state.running)) (refused (gate_reader h.state (length h.store))))) (eq-eqb (gate_reader h.state (length h.store)) 0 e)
     ∙ go (h.state.running.active && h.state.running.dated)
   where
-    go : (b : Bool) → timer_words (pick b (timer-variants.At h.state.running.deadline) timer-variants.Never) ≡ pick b (eight 0 1 h.state.running.deadline.0 0 0 0 0 0) nothing
+    go : (b : Bool) → timer_words (Ok (pick b (Some h.state.running.deadline) None)) ≡ pick b (eight 0 1 h.state.running.deadline.0 0 0 0 0 0) nothing
     go true = refl
     go false = refl
+
+-- a result whose value stands at a place
+abbrev given_of : ℕ → StepResult → Option Given
+given_of place x = Some (record { at = x.at; status = x.status; value = span place x.len })
 
 -- ---- results numbered from m on, whose values stand from block j on
 
@@ -57,29 +59,29 @@ module _ (s : List ℕ) where
   values j l = valued (λ x. x.len) result_part s j l
 
   found : (i j m k : ℕ) (l : List StepResult) → Numbered m (values j l) → i ≡ m + k → k < length l
-      → given i j l ≡ given-variants.Is (get_or l k no_result).at (get_or l k no_result).status (result_at (j + k)) (get_or l k no_result).len
+      → given i j l ≡ given_of (result_at (j + k)) (get_or l k no_result)
   unfolding given valued
   found i j m k [] n e h = absurd (omega arith)
   found i j m zero (x ∷ l) n e h =
       let f : x.index ≡ i = omega (arith, n.0) in
       let z : j ≡ j + 0 = omega arith in
-      ap (λ (b : Bool). pick b (given-variants.Is x.at x.status (result_at j) x.len) (given i (j + 1) l)) (eq-eqb x.index i f)
-      ∙ ap (λ (a : ℕ). given-variants.Is x.at x.status (result_at a) x.len) z
+      ap (λ (b : Bool). pick b (given_of (result_at j) x) (given i (j + 1) l)) (eq-eqb x.index i f)
+      ∙ ap (λ (a : ℕ). given_of (result_at a) x) z
   found i j m (suc k) (x ∷ l) n e h =
       let f : x.index ≡ i → ⊥ = λ y. omega (arith, n.0, y) in
       let z : (j + 1) + k ≡ j + suc k = omega arith in
       let o : j + 1 ≡ suc j = omega arith in
-      ap (λ (b : Bool). pick b (given-variants.Is x.at x.status (result_at j) x.len) (given i (j + 1) l)) (ne_eqb x.index i f)
+      ap (λ (b : Bool). pick b (given_of (result_at j) x) (given i (j + 1) l)) (ne_eqb x.index i f)
       ∙ found i (j + 1) (suc m) k l (subst (λ (a : ℕ). Numbered (suc m) (values a l)) (sym o) n.1) (omega (arith, e)) (omega arith)
-      ∙ ap (λ (a : ℕ). given-variants.Is (get_or l k no_result).at (get_or l k no_result).status (result_at a) (get_or l k no_result).len) z
+      ∙ ap (λ (a : ℕ). given_of (result_at a) (get_or l k no_result)) z
 
-  missing : (i j m : ℕ) (l : List StepResult) → Numbered m (values j l) → ((k : ℕ) → k < length l → i ≡ m + k → ⊥) → given i j l ≡ given-variants.Nothing
+  missing : (i j m : ℕ) (l : List StepResult) → Numbered m (values j l) → ((k : ℕ) → k < length l → i ≡ m + k → ⊥) → given i j l ≡ None
   unfolding given valued
   missing i j m [] n f = refl
   missing i j m (x ∷ l) n f =
       let g : x.index ≡ i → ⊥ = λ y. f 0 (omega arith) (omega (arith, n.0, y)) in
       let o : j + 1 ≡ suc j = omega arith in
-      ap (λ (b : Bool). pick b (given-variants.Is x.at x.status (result_at j) x.len) (given i (j + 1) l)) (ne_eqb x.index i g)
+      ap (λ (b : Bool). pick b (given_of (result_at j) x) (given i (j + 1) l)) (ne_eqb x.index i g)
       ∙ missing i (j + 1) (suc m) l (subst (λ (a : ℕ). Numbered (suc m) (values a l)) (sym o) n.1) (λ k h e. f (suc k) (omega arith) (omega (arith, e)))
 
   -- one of them, with its value
@@ -117,14 +119,14 @@ module _ (h : Held) (l : List (Valued StepResult)) (accepts : gate_reader h.stat
   unfolding rs
   many = sym (length-valued (λ x. x.len) result_part h.store 0 rs) ∙ ap length rest ∙ length-drop m l
 
-  asked : (i : ℕ) → said h (result_of i) ≡ given_words (given i 0 rs)
+  asked : (i : ℕ) → said h (result_of i) ≡ given_words (Ok (given i 0 rs))
   unfolding result_answer rs
   asked i =
-      ap (λ (b : Bool). given_words (pick b (given i 0 rs) (given-variants.Refused (gate_reader h.state (length h.store))))) (eq-eqb (gate_reader h.state (length h.store)) 0 accepts)
+      ap (λ (b : Bool). given_words (pick b (Ok (given i 0 rs)) (refused (gate_reader h.state (length h.store))))) (eq-eqb (gate_reader h.state (length h.store)) 0 accepts)
 
   absent : (i : ℕ) → ((k : ℕ) → k < length rs → i ≡ m + k → ⊥) → said h (result_of i) ≡ nothing
   unfolding rs
-  absent i f = asked i ∙ ap given_words (missing h.store i 0 m rs numbers f)
+  absent i f = asked i ∙ ap (λ (g : Option Given). given_words (Ok g)) (missing h.store i 0 m rs numbers f)
 
   module _ (i : ℕ) (given-so-far : i < length l) (Still-kept : length l ≤ i + most_results) where
     k : ℕ
@@ -161,8 +163,8 @@ module _ (h : Held) (l : List (Valued StepResult)) (accepts : gate_reader h.stat
           place = result_at k;
           numbers-are =
               asked i
-              ∙ ap given_words (found h.store i 0 m k rs numbers is in_table)
-              ∙ ap (λ (a : ℕ). given_words (given-variants.Is (get_or rs k no_result).at (get_or rs k no_result).status (result_at a) (get_or rs k no_result).len)) z;
+              ∙ ap (λ (g : Option Given). given_words (Ok g)) (found h.store i 0 m k rs numbers is in_table)
+              ∙ ap (λ (a : ℕ). given_words (Ok (given_of (result_at a) (get_or rs k no_result)))) z;
           inside = omega (arith, in_table, few, short rs k (passed-reader h.state (length h.store) accepts).fit.results in_table);
           value = refl;
         }
@@ -184,25 +186,25 @@ module _ (h : Held) (l : List (Valued StepResult)) (accepts : gate_reader h.stat
 pub reader-refusal : (h : Held) (r : Reader) → get_or (said h r) 0 0 ≡ (does h (reads r)).refusal
 reader-refusal h timer_us = go (timer h.state (length h.store)) ∙ timer-refusal h.state (length h.store)
   where
-    go : (x : Timer) → get_or (timer_words x) 0 0 ≡ timer_refusal x
-    go (timer-variants.Refused why) = refl
-    go timer-variants.Never = refl
-    go (timer-variants.At t) = refl
+    go : (x : Result (Option Micros) Refusal) → get_or (timer_words x) 0 0 ≡ refusal_number x
+    go (Err why) = refl
+    go (Ok None) = refl
+    go (Ok (Some t)) = refl
 reader-refusal h connected_handle = go (handle h.state (length h.store)) ∙ handle-refusal h.state (length h.store)
   where
-    go : (x : Handle) → get_or (handle_words x) 0 0 ≡ handle_refusal x
-    go (handle-variants.Refused why) = refl
-    go handle-variants.Absent = refl
-    go (handle-variants.Is n) = refl
+    go : (x : Result (Option ℕ) Refusal) → get_or (handle_words x) 0 0 ≡ refusal_number x
+    go (Err why) = refl
+    go (Ok None) = refl
+    go (Ok (Some n)) = refl
 reader-refusal h (result_of i) = go (result_answer h.state (length h.store) i) ∙ result_answer-refusal h.state (length h.store) i
   where
-    go : (x : Given) → get_or (given_words x) 0 0 ≡ given_refusal x
-    go (given-variants.Refused why) = refl
-    go given-variants.Nothing = refl
-    go (given-variants.Is at status place len) = refl
+    go : (x : Result (Option Given) Refusal) → get_or (given_words x) 0 0 ≡ refusal_number x
+    go (Err why) = refl
+    go (Ok None) = refl
+    go (Ok (Some g)) = refl
 reader-refusal h (passed_on i) = go (readers.passed_on h.state (length h.store) i) ∙ passed-refusal h.state (length h.store) i
   where
-    go : (x : Passed) → get_or (passed_words x) 0 0 ≡ passed_refusal x
-    go (passed-variants.Refused why) = refl
-    go passed-variants.Nothing = refl
-    go (passed-variants.Is at link handle indication place len) = refl
+    go : (x : Result (Option Passed) Refusal) → get_or (passed_words x) 0 0 ≡ refusal_number x
+    go (Err why) = refl
+    go (Ok None) = refl
+    go (Ok (Some p)) = refl

@@ -1,5 +1,5 @@
 -- What the readers say, and what they are promised to say after a sequence of calls.
-use Rattle.std.specs.Prelude.{ℕ, ◌+◌, ◌≤◌, ◌<◌, ◌≡◌, refl, Bool, true, false, ◌&&◌, List, [], ◌∷◌, length, get_or, eqb, leb}
+use Rattle.std.specs.Prelude.{ℕ, ◌+◌, ◌≤◌, ◌<◌, ◌≡◌, refl, Bool, true, false, ◌&&◌, List, [], ◌∷◌, Option, None, Some, length, get_or, eqb, leb}
 use Rattle.bytes_base.specs.Choice.{pick}
 use Rattle.state_places.specs.Sizes.{store_size, most_results}
 use Rattle.lists.specs.Blocks.{Valued, bytes}
@@ -8,8 +8,6 @@ use Rattle.state.specs.declared.Running.{Running}
 use Rattle.state.specs.declared.StepResult.{StepResult}
 use Rattle.state_rules.specs.Refusals.{accepted}
 use Rattle.script_rules.specs.World.{Held}
-use Rattle.state_readers.specs.declared.Handle.{Handle}
-use Rattle.state_readers.specs.declared.Handle.TheVariants.{Absent, Is}
 use Rattle.state_readers.specs.Readers.{timer, handle, result_answer}
 use Rattle.state_readers.specs.Readers as readers
 use Rattle.state_readers.specs.Numbers.{eight, timer_words, handle_words, status_number, status_code, given_words, passed_words}
@@ -49,11 +47,11 @@ pub record Heeds (h : Held) (out : List ℕ) (at : Micros) : Type 0 where
 -- ---- `connected_handle`: the handle of the last accepted connected call, while no accepted disconnected call came since
 
 -- what an accepted call makes of the link
-abbrev pub link_by : Call → Handle → Handle
+abbrev pub link_by : Call → Option ℕ → Option ℕ
 link_by (batch out at b values) x = x
 link_by (timer-call out at) x = x
-link_by (connected out handle at) x = Is handle
-link_by (disconnected at) x = Absent
+link_by (connected out handle at) x = Some handle
+link_by (disconnected at) x = None
 link_by (advertising v) x = x
 link_by (scan_response at a d) x = x
 link_by (fragment out at start bytes) x = x
@@ -65,22 +63,22 @@ refusals h [] = []
 refusals h (c ∷ cs) = (does h c).refusal ∷ refusals (left (does h c)) cs
 
 -- from the calls and their refusals alone
-abbrev pub link_after : Handle → List Call → List ℕ → Handle
+abbrev pub link_after : Option ℕ → List Call → List ℕ → Option ℕ
 link_after x [] rs = x
 link_after x (c ∷ cs) [] = x
 link_after x (c ∷ cs) (r ∷ rs) = link_after (pick (eqb r accepted) (link_by c x) x) cs rs
 
 -- a link that is lost, one whose loss is refused, one after another
-linked-samples : List Handle
+linked-samples : List (Option ℕ)
 linked-samples =
     let at : Micros = record { 0 = 0 } in
     let one = connected [] 5 at in
     let two = connected [] 6 at in
     let gone = disconnected at in
-    link_after Absent (one ∷ gone ∷ []) (0 ∷ 0 ∷ []) ∷ link_after Absent (one ∷ gone ∷ []) (0 ∷ 3 ∷ []) ∷ link_after Absent (one ∷ gone ∷ two ∷ []) (0 ∷ 0 ∷ 0 ∷ [])
-    ∷ link_after Absent (one ∷ two ∷ []) (0 ∷ 3 ∷ []) ∷ []
+    link_after None (one ∷ gone ∷ []) (0 ∷ 0 ∷ []) ∷ link_after None (one ∷ gone ∷ []) (0 ∷ 3 ∷ []) ∷ link_after None (one ∷ gone ∷ two ∷ []) (0 ∷ 0 ∷ 0 ∷ [])
+    ∷ link_after None (one ∷ two ∷ []) (0 ∷ 3 ∷ []) ∷ []
 
-linked-so : linked-samples ≡ Absent ∷ Is 5 ∷ Is 6 ∷ Is 5 ∷ []
+linked-so : linked-samples ≡ None ∷ Some 5 ∷ Some 6 ∷ Some 5 ∷ []
 unfolding linked-samples
 linked-so = refl
 

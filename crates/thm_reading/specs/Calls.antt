@@ -1,7 +1,7 @@
 -- The same of the calls on lent tables, by their contracts (crates script_batch, script_events, link_call, radio_calls, state_readers).
 -- A contract says of what a call leaves, x, that `tells x ≡ does (central core words)`: `tells` reads the answer with the words, store
 -- and output as they are then; `does` is the call's definition; `central core words` is the reading of the state that it is given.
-use Rattle.std.specs.Prelude.{ℕ, ◌≡◌, Bool, List, length, ⊤}
+use Rattle.std.specs.Prelude.{ℕ, ◌≡◌, Bool, List, Option, Result, length, ⊤}
 use Rattle.time.specs.declared.Micros.{Micros}
 use Rattle.state.specs.Central.{Central}
 use Rattle.state.specs.declared.Sent.{Sent}
@@ -13,9 +13,8 @@ use Rattle.script_rules.specs.Events as events
 use Rattle.link_rules.specs.Link as link
 use Rattle.radio_match.specs.declared.AdvAction.{AdvAction}
 use Rattle.radio_rules.specs.Hearing as radio
+use Rattle.state_refusals.specs.declared.Refusal.{Refusal}
 use Rattle.state_readers.specs.Readers as readers
-use Rattle.state_readers.specs.declared.Timer.{Timer}
-use Rattle.state_readers.specs.declared.Handle.{Handle}
 use Rattle.state_readers.specs.declared.Given.{Given}
 use Rattle.state_readers.specs.declared.Passed.{Passed}
 use Rattle.state_core.specs.declared.Core.{Core}
@@ -74,10 +73,10 @@ pub record SpareBitsNeverMatter : Type 0 where
   pub on_advertising : (store : List ℕ) (at : Micros) (channel pdu : ℕ) (a : Address) (bytes : List ℕ) (us : Bool)
       → OneReading hears (λ c. radio.advertised c store (radio.adv at channel pdu a bytes us))
   pub on_scan_response : (store : List ℕ) (at : Micros) (a : Address) (bytes : List ℕ) → OneReading takes (λ c. radio.scan_responded c store at a bytes)
-  pub timer : (store : List ℕ) → OneReading (says {A = Timer}) (λ c. readers.timer c (length store))
-  pub handle : (store : List ℕ) → OneReading (says {A = Handle}) (λ c. readers.handle c (length store))
-  pub result : (store : List ℕ) (index : ℕ) → OneReading (says {A = Given}) (λ c. readers.result_answer c (length store) index)
-  pub passed_on : (store : List ℕ) (index : ℕ) → OneReading (says {A = Passed}) (λ c. readers.passed_on c (length store) index)
+  pub timer : (store : List ℕ) → OneReading (says {A = Result (Option Micros) Refusal}) (λ c. readers.timer c (length store))
+  pub handle : (store : List ℕ) → OneReading (says {A = Result (Option ℕ) Refusal}) (λ c. readers.handle c (length store))
+  pub result : (store : List ℕ) (index : ℕ) → OneReading (says {A = Result (Option Given) Refusal}) (λ c. readers.result_answer c (length store) index)
+  pub passed_on : (store : List ℕ) (index : ℕ) → OneReading (says {A = Result (Option Passed) Refusal}) (λ c. readers.passed_on c (length store) index)
 
 -- ---- dead places: the same of two states whose readings differ in dead places alone
 
@@ -99,7 +98,7 @@ pub record DeadWordsNeverMatter : Type 0 where
       → AlikeReadings SameHeard hears (λ c. radio.advertised c store (radio.adv at channel pdu a bytes us))
   pub on_scan_response : (store : List ℕ) (at : Micros) (a : Address) (bytes : List ℕ)
       → AlikeReadings SameHeard takes (λ c. radio.scan_responded c store at a bytes)
-  pub timer : (store : List ℕ) → AlikeReadings ◌≡◌ (says {A = Timer}) (λ c. readers.timer c (length store))
-  pub handle : (store : List ℕ) → AlikeReadings ◌≡◌ (says {A = Handle}) (λ c. readers.handle c (length store))
-  pub result : (store : List ℕ) (index : ℕ) → AlikeReadings ◌≡◌ (says {A = Given}) (λ c. readers.result_answer c (length store) index)
-  pub passed_on : (store : List ℕ) (index : ℕ) → AlikeReadings ◌≡◌ (says {A = Passed}) (λ c. readers.passed_on c (length store) index)
+  pub timer : (store : List ℕ) → AlikeReadings ◌≡◌ (says {A = Result (Option Micros) Refusal}) (λ c. readers.timer c (length store))
+  pub handle : (store : List ℕ) → AlikeReadings ◌≡◌ (says {A = Result (Option ℕ) Refusal}) (λ c. readers.handle c (length store))
+  pub result : (store : List ℕ) (index : ℕ) → AlikeReadings ◌≡◌ (says {A = Result (Option Given) Refusal}) (λ c. readers.result_answer c (length store) index)
+  pub passed_on : (store : List ℕ) (index : ℕ) → AlikeReadings ◌≡◌ (says {A = Result (Option Passed) Refusal}) (λ c. readers.passed_on c (length store) index)

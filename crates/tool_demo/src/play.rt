@@ -4,7 +4,6 @@ use central::State;
 use central_answers::{Answer, UNSENT};
 use radio_match::AdvAction;
 use state::{Address, Sent};
-use state_readers::Timer;
 use state_refusals::Refusal;
 use story::{Happening, Part, What};
 use time::Micros;
@@ -148,21 +147,14 @@ fn act(
 }
 
 // The timer, where the library wants it earlier.
-fn or_timer(h: Happening, t: Timer) -> Happening {
+fn or_timer(h: Happening, t: Result<Option<Micros>, Refusal>) -> Happening {
     match t {
-        Timer::Refused(_) => h,
-        Timer::Never => h,
-        Timer::At(deadline) => {
-            let at = h.at;
-            if at.0 <= deadline.0 {
-                return h;
-            }
-            Happening {
-                at: deadline,
-                what: What::Timer,
-                of_itself: false,
-            }
-        }
+        Ok(Some(deadline)) if deadline.0 < h.at.0 => Happening {
+            at: deadline,
+            what: What::Timer,
+            of_itself: false,
+        },
+        _ => h,
     }
 }
 

@@ -4,6 +4,7 @@ use central::State;
 use play::Turn;
 use state::Step;
 use state_readers::Given;
+use state_refusals::Refusal;
 use story::{Part, What};
 use time::Micros;
 
@@ -42,25 +43,20 @@ fn named(index: u32, step: Step) {
     tool_tells::steps::step(step);
 }
 
-fn line(at: Micros, index: u32, step: Step, g: Given) {
+fn line(at: Micros, index: u32, step: Step, g: Result<Option<Given>, Refusal>) {
     tool_say::clock::column(at.0);
     match g {
-        Given::Refused(why) => tool_tells::codes::refused(why),
-        Given::Nothing => {
+        Err(why) => tool_tells::codes::refused(Some(why)),
+        Ok(None) => {
             tool_say::spaces(0, tool_say::clock::COLUMN);
             named(index, step);
             tool_say::line(b"");
         }
-        Given::Is {
-            at: end,
-            status,
-            place: _,
-            len: _,
-        } => {
-            tool_say::clock::column(end.0);
+        Ok(Some(g)) => {
+            tool_say::clock::column(g.at.0);
             named(index, step);
             tool_say::text(b": ");
-            tool_tells::codes::status(status);
+            tool_tells::codes::status(g.status);
             tool_say::line(b"");
         }
     }

@@ -1,8 +1,10 @@
 // What became of waits: the results of a call, what an aged wait passed on, what no wait has used up.
+use bytes_bounds::Span;
 use central::State;
 use notifications::Age;
 use state::Step;
 use state_readers::Passed;
+use state_refusals::Refusal;
 use time::{Micros, Millis};
 
 // So many steps have ended.
@@ -45,46 +47,40 @@ fn notification(at: Micros, link: u64, value: &[u8]) {
 }
 
 // The newest that is kept.
-fn newest(s: State) -> Passed {
+fn newest(s: State) -> Option<Passed> {
     let core = s.core;
     let counts = core.counts;
     let tables = s.tables;
     let count = counts.notifications;
     if count == 0 {
-        return Passed::Nothing;
+        return None;
     }
     let i = count - 1;
     if state_places::MAX_NOTIFICATIONS <= i {
-        return Passed::Nothing;
+        return None;
     }
     let x = words_notification::notification_at(&tables, i);
-    let at = x.at;
-    Passed::Is {
-        at,
+    Some(Passed {
+        at: x.at,
         link: x.link,
         handle: x.handle,
         indication: x.indication,
-        place: state_places::notification_at(i),
-        len: x.len as usize,
-    }
+        value: Span {
+            at: state_places::notification_at(i),
+            len: usize::from(x.len),
+        },
+    })
 }
 
 // ---- results
 
-fn tell_passed(p: Passed, store: &[u8]) {
+fn tell_passed(p: Result<Option<Passed>, Refusal>, store: &[u8]) {
     match p {
-        Passed::Refused(why) => tool_tells::codes::refused(why),
-        Passed::Nothing => (),
-        Passed::Is {
-            at,
-            link,
-            handle: _,
-            indication: _,
-            place,
-            len,
-        } => {
+        Err(why) => tool_tells::codes::refused(Some(why)),
+        Ok(None) => (),
+        Ok(Some(p)) => {
             tool_say::text(b"        its result names what it passed on: ");
-            notification(at, link, tool_tells::value_at(store, place, len));
+            notification(p.at, p.link, tool_tells::value_at(store, p.value));
             tool_say::line(b"");
         }
     }
@@ -120,26 +116,15 @@ fn tell_age(at: Micros, now: Micros) {
 
 // It was heard before this call.
 fn old(s: State, store: &[u8], now: Micros) {
-    match newest(s) {
-        Passed::Refused(_) => (),
-        Passed::Nothing => (),
-        Passed::Is {
-            at,
-            link,
-            handle: _,
-            indication: _,
-            place,
-            len,
-        } => {
-            if now.0 <= at.0 {
-                return;
-            }
-            tool_say::text(b"        it passed on ");
-            notification(at, link, tool_tells::value_at(store, place, len));
-            tool_say::text(b", which is ");
-            tell_age(at, now);
-            tool_say::told(b"; the present link is ", links(s), b"\n");
+    if let Some(p) = newest(s) {
+        if now.0 <= p.at.0 {
+            return;
         }
+        tool_say::text(b"        it passed on ");
+        notification(p.at, p.link, tool_tells::value_at(store, p.value));
+        tool_say::text(b", which is ");
+        tell_age(p.at, now);
+        tool_say::told(b"; the present link is ", links(s), b"\n");
     }
 }
 
@@ -164,25 +149,14 @@ fn why_not(s: State, link: u64, at: Micros, now: Micros, age: Millis) {
 }
 
 fn uncounted(s: State, store: &[u8], now: Micros, age: Millis) {
-    match newest(s) {
-        Passed::Refused(_) => (),
-        Passed::Nothing => (),
-        Passed::Is {
-            at,
-            link,
-            handle: _,
-            indication: _,
-            place,
-            len,
-        } => {
-            tool_say::told(
-                b"    step ",
-                s.core.running.index as u64,
-                b" does not count ",
-            );
-            notification(at, link, tool_tells::value_at(store, place, len));
-            why_not(s, link, at, now, age);
-        }
+    if let Some(p) = newest(s) {
+        tool_say::told(
+            b"    step ",
+            s.core.running.index as u64,
+            b" does not count ",
+        );
+        notification(p.at, p.link, tool_tells::value_at(store, p.value));
+        why_not(s, p.link, p.at, now, age);
     }
 }
 

@@ -26,61 +26,83 @@ pub fn more(h: u64, x: u64) -> u64 {
 }
 
 pub fn more_of_flag(h: u64, x: bool) -> u64 {
-    if x { more(h, 1) } else { more(h, 0) }
+    more(h, u64::from(x))
 }
 
 fn of_counts(h: u64, n: Counts) -> u64 {
-    let a = more(h, n.waiting as u64);
-    let b = more(a, n.results as u64);
-    let c = more(b, n.services as u64);
-    let d = more(c, n.characteristics as u64);
-    more(d, n.notifications as u64)
+    spans::of(
+        h,
+        &[
+            n.waiting as u64,
+            n.results as u64,
+            n.services as u64,
+            n.characteristics as u64,
+            n.notifications as u64,
+        ],
+    )
 }
 
 fn of_counters(h: u64, k: Counters) -> u64 {
-    let a = more(h, k.next_index as u64);
-    let b = more(a, k.refused_steps);
-    let c = more(b, k.notified);
-    more(more(c, k.wait_from), k.links)
+    spans::of(
+        h,
+        &[
+            u64::from(k.next_index),
+            k.refused_steps,
+            k.notified,
+            k.wait_from,
+            k.links,
+        ],
+    )
 }
 
 fn of_bearer(h: u64, b: Bearer) -> u64 {
     let link = b.link;
-    let c = more(h, b.held as u64);
-    let d = more(c, link.handle as u64);
-    let e = more(d, link.mtu as u64);
-    let f = more(e, link.pending as u64);
-    let g = more_of_flag(f, link.terminating);
-    more_of_flag(more_of_flag(g, b.present), b.closed)
+    spans::of(
+        h,
+        &[
+            b.held as u64,
+            u64::from(link.handle),
+            u64::from(link.mtu),
+            u64::from(link.pending),
+            u64::from(link.terminating),
+            u64::from(b.present),
+            u64::from(b.closed),
+        ],
+    )
 }
 
 fn of_running(h: u64, r: Running) -> u64 {
-    let deadline = r.deadline;
-    let step = r.step;
-    let a = steps::of_step(more(h, deadline.0), step);
-    let b = more(a, r.index as u64);
-    let c = more(b, r.cursor as u64);
-    let d = more(c, r.len as u64);
-    let e = more(d, r.phase as u64);
-    more_of_flag(more_of_flag(e, r.active), r.dated)
+    spans::of(
+        steps::of_step(more(h, r.deadline.0), r.step),
+        &[
+            u64::from(r.index),
+            u64::from(r.cursor),
+            u64::from(r.len),
+            u64::from(r.phase),
+            u64::from(r.active),
+            u64::from(r.dated),
+        ],
+    )
 }
 
 fn of_core(h: u64, c: Core) -> u64 {
     let a = of_counters(of_counts(h, c.counts), c.counters);
-    let b = of_running(of_bearer(a, c.bearer), c.running);
-    let o = c.options;
-    more_of_flag(
-        more(more(b, c.reports as u64), c.key_count as u64),
-        o.strict,
+    spans::of(
+        of_running(of_bearer(a, c.bearer), c.running),
+        &[
+            c.reports as u64,
+            c.key_count as u64,
+            u64::from(c.options.strict),
+        ],
     )
 }
 
 // Of every field of the core and every word of the tables, dead places and spare bits too.
 pub fn of_state(c: Core, tables: &[u64]) -> u64 {
-    spans::of_words(of_core(1, c), tables)
+    spans::of(of_core(1, c), tables)
 }
 
 // Of lent bytes.
 pub fn of_lent(s: &[u8]) -> u64 {
-    spans::of_bytes(1, s)
+    spans::of(1, s)
 }

@@ -78,7 +78,7 @@ fn advertiser(x: Report) -> Advertiser {
         channel: x.channel,
         pdu: x.pdu,
         len: x.len,
-        response: x.response,
+        response: (x.response != words_report::NO_RESPONSE).then_some(x.response),
     }
 }
 

@@ -44,8 +44,12 @@ fn begin(store: &mut [u8], out: &mut [u8]) -> State {
 }
 
 // Whether the wait is over.
-fn told(why: Option<Refusal>, g: Given, store: &[u8]) {
-    tool_say::told(b"    refusal ", state_refusals::told_number(why) as u64, b"\n");
+fn told(why: Option<Refusal>, g: Result<Option<Given>, Refusal>, store: &[u8]) {
+    tool_say::told(
+        b"    refusal ",
+        state_refusals::told_number(why) as u64,
+        b"\n",
+    );
     if !tool_tells::result(0, g, store) {
         tool_say::line(b"    step 0 waits on");
     }

@@ -1,7 +1,6 @@
 // The views of kept reports: numbers, and the bytes as parts of the lent store.
 use crate::known;
 use central::State;
-use radio_views::Seen;
 use state::{Address, Step};
 use time::{Micros, Millis};
 use uuid_value::Uuid;
@@ -76,9 +75,9 @@ fn tell_bytes(what: &[u8], s: &[u8]) {
 fn tell_numbers(s: State, store: &[u8], i: usize) {
     let tables = s.tables;
     match radio_views::report(s.core, &tables, store, i) {
-        Seen::Refused(why) => tool_say::told(b": refusal ", why as u64, b"\n"),
-        Seen::Nothing => tool_say::line(b": none"),
-        Seen::Is(r) => {
+        Err(why) => tool_say::told(b": refusal ", why.number() as u64, b"\n"),
+        Ok(None) => tool_say::line(b": none"),
+        Ok(Some(r)) => {
             let at = r.at;
             let who = r.address;
             tool_say::told(b": at ", at.0, b" us");

@@ -22,7 +22,13 @@ fn mtu_of(s: State) -> u16 {
 }
 
 // What the call told, and how step 0 ended, if it did.
-fn ended(why: Option<Refusal>, sent: Sent, out: &[u8], g: Given, store: &[u8]) {
+fn ended(
+    why: Option<Refusal>,
+    sent: Sent,
+    out: &[u8],
+    g: Result<Option<Given>, Refusal>,
+    store: &[u8],
+) {
     known::refusal(why);
     tool_say::told(b", frames ", sent.frames as u64, b"\n");
     tool_tells::sent(sent, out);

@@ -2,8 +2,9 @@
 use radio_match::AdvAction;
 use state::Sent;
 use state_core::Core;
+use state_readers::{Given, Passed};
 use state_refusals::Refusal;
-use state_readers::{Given, Handle, Passed, Timer};
+use time::Micros;
 use tool_lines::line;
 use tool_traces::record;
 use tool_traces::record::Bad;
@@ -20,19 +21,19 @@ pub fn unread(to: &mut [u8], why: Bad) -> bool {
 
 // ---- the calls that only read
 
-pub fn timer(to: &mut [u8], t: Timer) -> bool {
+pub fn timer(to: &mut [u8], t: Result<Option<Micros>, Refusal>) -> bool {
     let n = line::text(to, 0, b"timer_us");
     let m = tool_rows::timer(to, n, t);
     line::end(to, m)
 }
 
-pub fn handle(to: &mut [u8], h: Handle) -> bool {
+pub fn handle(to: &mut [u8], h: Result<Option<u16>, Refusal>) -> bool {
     let n = line::text(to, 0, b"connected_handle");
     let m = tool_rows::handle(to, n, h);
     line::end(to, m)
 }
 
-pub fn given(to: &mut [u8], index: u32, g: Given, store: &[u8]) -> bool {
+pub fn given(to: &mut [u8], index: u32, g: Result<Option<Given>, Refusal>, store: &[u8]) -> bool {
     let n = line::text(to, 0, b"result");
     let m = tool_rows::given(to, n, index, g, store);
     line::end(to, m)
@@ -56,7 +57,7 @@ pub fn mode(to: &mut [u8], core: Core) -> bool {
     line::end(to, m)
 }
 
-pub fn passed(to: &mut [u8], p: Passed, store: &[u8]) -> bool {
+pub fn passed(to: &mut [u8], p: Result<Option<Passed>, Refusal>, store: &[u8]) -> bool {
     let n = line::text(to, 0, b"passed_on");
     let m = tool_rows::passed(to, n, p, store);
     line::end(to, m)

@@ -8,13 +8,11 @@ use radio_match::AdvAction;
 use state::{
     Bearer, LinkRequest, Options, Queued, Running, Sent, Step, StepResult, StepStatus, Target,
 };
-use state_readers::{Given, Handle, Passed, Timer};
+use state_readers::{Given, Passed};
+use state_refusals::Refusal;
 use time::{Micros, Millis};
 use tool_lines::line;
 use uuid_value::Uuid;
-
-// The length that stands for no scan response.
-const NO_RESPONSE: u8 = 32;
 
 // What was heard of an advertiser: one report.
 #[derive(Clone, Copy)]
@@ -24,7 +22,7 @@ pub struct Advertiser {
     pub channel: u8,
     pub pdu: u8,
     pub len: u8,
-    pub response: u8,
+    pub response: Option<u8>,
 }
 
 // ---- single words
@@ -42,10 +40,7 @@ fn half(to: &mut [u8], at: usize, n: u16) -> usize {
 }
 
 fn flag(to: &mut [u8], at: usize, f: bool) -> usize {
-    if f {
-        return line::number(to, at, 1);
-    }
-    line::number(to, at, 0)
+    line::number(to, at, u64::from(f))
 }
 
 fn millis(to: &mut [u8], at: usize, t: Millis) -> usize {
@@ -195,23 +190,20 @@ pub fn running(to: &mut [u8], at: usize, r: Running, s: &[u8]) -> usize {
 
 // ---- results
 
-fn status_code(to: &mut [u8], at: usize, status: u8, code: u8) -> usize {
-    let n = byte(to, at, status);
-    byte(to, n, code)
-}
-
 fn status(to: &mut [u8], at: usize, x: StepStatus) -> usize {
-    match x {
-        StepStatus::Ok => status_code(to, at, 0, 0),
-        StepStatus::Timeout => status_code(to, at, 1, 0),
-        StepStatus::NotConnected => status_code(to, at, 2, 0),
-        StepStatus::NotFound => status_code(to, at, 3, 0),
-        StepStatus::AttError(code) => status_code(to, at, 4, code),
-        StepStatus::TooLong => status_code(to, at, 5, 0),
-        StepStatus::Disconnected => status_code(to, at, 6, 0),
-        StepStatus::TableFull => status_code(to, at, 7, 0),
-        StepStatus::BearerClosed => status_code(to, at, 8, 0),
-    }
+    let (number, code) = match x {
+        StepStatus::Ok => (0, 0),
+        StepStatus::Timeout => (1, 0),
+        StepStatus::NotConnected => (2, 0),
+        StepStatus::NotFound => (3, 0),
+        StepStatus::AttError(code) => (4, code),
+        StepStatus::TooLong => (5, 0),
+        StepStatus::Disconnected => (6, 0),
+        StepStatus::TableFull => (7, 0),
+        StepStatus::BearerClosed => (8, 0),
+    };
+    let n = byte(to, at, number);
+    byte(to, n, code)
 }
 
 // All but the value of a result.
@@ -244,10 +236,10 @@ pub fn report(
     let k = byte(to, m, x.pdu);
     let j = line::key(to, k, x.key);
     let i = bytes(to, j, s, place, x.len);
-    if x.response == NO_RESPONSE {
-        return none(to, i);
+    match x.response {
+        None => none(to, i),
+        Some(len) => bytes(to, i, s, other, len),
     }
-    bytes(to, i, s, other, x.response)
 }
 
 pub fn service(to: &mut [u8], at: usize, x: Service) -> usize {
@@ -364,77 +356,56 @@ pub fn advertised(to: &mut [u8], at: usize, refusal: u8, a: AdvAction) -> usize 
     action(to, n, a)
 }
 
-pub fn timer(to: &mut [u8], at: usize, t: Timer) -> usize {
-    match t {
-        Timer::Refused(why) => byte(to, at, why),
-        Timer::Never => {
+// A refusal, that there is nothing, or what there is, as `write` tells it.
+fn answered<T, F: FnOnce(&mut [u8], usize, T) -> usize>(
+    to: &mut [u8],
+    at: usize,
+    x: Result<Option<T>, Refusal>,
+    write: F,
+) -> usize
+    requires { F.IsAlwaysCallable write }
+{
+    match x {
+        Err(why) => byte(to, at, why.number()),
+        Ok(found) => {
             let n = taken(to, at);
-            none(to, n)
-        }
-        Timer::At(x) => {
-            let n = taken(to, at);
-            micros(to, n, x)
+            match found {
+                Some(t) => write(to, n, t),
+                None => none(to, n),
+            }
         }
     }
 }
 
-pub fn handle(to: &mut [u8], at: usize, h: Handle) -> usize {
-    match h {
-        Handle::Refused(why) => byte(to, at, why),
-        Handle::Absent => {
-            let n = taken(to, at);
-            none(to, n)
-        }
-        Handle::Is(x) => {
-            let n = taken(to, at);
-            half(to, n, x)
-        }
-    }
+pub fn timer(to: &mut [u8], at: usize, t: Result<Option<Micros>, Refusal>) -> usize {
+    answered(to, at, t, micros)
+}
+
+pub fn handle(to: &mut [u8], at: usize, h: Result<Option<u16>, Refusal>) -> usize {
+    answered(to, at, h, half)
 }
 
 // The result of an index; its value's bytes stand in s.
-pub fn given(to: &mut [u8], at: usize, index: u32, g: Given, s: &[u8]) -> usize {
-    match g {
-        Given::Refused(why) => byte(to, at, why),
-        Given::Nothing => {
-            let n = taken(to, at);
-            none(to, n)
-        }
-        Given::Is {
-            at: t,
-            status: how,
-            place,
-            len,
-        } => {
-            let n = taken(to, at);
-            let m = ended(to, n, index, t, how);
-            line::bytes_at(to, m, s, place, len)
-        }
-    }
+pub fn given(
+    to: &mut [u8],
+    at: usize,
+    index: u32,
+    g: Result<Option<Given>, Refusal>,
+    s: &[u8],
+) -> usize {
+    answered(to, at, g, |to, n, x| {
+        let m = ended(to, n, index, x.at, x.status);
+        line::bytes_at(to, m, s, x.value.at, x.value.len)
+    })
 }
 
 // The notification that a result names; its value's bytes stand in s.
-pub fn passed(to: &mut [u8], at: usize, p: Passed, s: &[u8]) -> usize {
-    match p {
-        Passed::Refused(why) => byte(to, at, why),
-        Passed::Nothing => {
-            let n = taken(to, at);
-            none(to, n)
-        }
-        Passed::Is {
-            at: t,
-            link,
-            handle,
-            indication,
-            place,
-            len,
-        } => {
-            let n = taken(to, at);
-            let m = micros(to, n, t);
-            let k = line::number(to, m, link);
-            let j = half(to, k, handle);
-            let i = flag(to, j, indication);
-            line::bytes_at(to, i, s, place, len)
-        }
-    }
+pub fn passed(to: &mut [u8], at: usize, p: Result<Option<Passed>, Refusal>, s: &[u8]) -> usize {
+    answered(to, at, p, |to, n, x| {
+        let m = micros(to, n, x.at);
+        let k = line::number(to, m, x.link);
+        let j = half(to, k, x.handle);
+        let i = flag(to, j, x.indication);
+        line::bytes_at(to, i, s, x.value.at, x.value.len)
+    })
 }

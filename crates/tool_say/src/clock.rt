@@ -1,4 +1,6 @@
 // Times of day and spans of time.
+ghost use Rattle.std.specs.Prelude.{◌≤◌};
+
 use crate::{number, spaces, text, told};
 
 const MILLION: u64 = 1_000_000;
@@ -21,22 +23,22 @@ const TO_THE_SECOND: usize = 8;
 pub const COLUMN: usize = TO_THE_SECOND + MOST_DECIMALS + 2;
 
 // As many decimals of so many millionths as are needed; how many characters they are, with the point.
-fn decimals(millionths: u64) -> usize {
+fn decimals(millionths: u64) -> usize
+    ensures { result ≤ 7 }
+{
     let mut rest = millionths % MILLION;
     if rest == 0 {
         return 0;
     }
     text(b".");
-    let mut said = 1;
-    while said < MOST_DECIMALS {
+    for said in 1..MOST_DECIMALS {
         if rest == 0 {
             return said;
         }
         number(rest / TENTH);
         rest = rest % TENTH * 10;
-        said += 1;
     }
-    said
+    MOST_DECIMALS
 }
 
 fn two_digits(n: u64) {
@@ -52,7 +54,7 @@ pub fn time(us: u64) -> usize {
     two_digits(seconds % HOUR / MINUTE);
     text(b":");
     two_digits(seconds % MINUTE);
-    std::num::wrapping_add_usize(TO_THE_SECOND, decimals(us))
+    TO_THE_SECOND + decimals(us)
 }
 
 // The same, with spaces up to the next column.

@@ -45,39 +45,29 @@ fn byte(b: u8) {
 
 // The first n bytes of s in hex.
 pub fn first(s: &[u8], n: usize) {
-    let mut i: usize = 0;
-    while i < n {
-        if s.len() <= i {
-            return;
-        }
-        byte(s[i]);
-        i += 1;
+    for b in s.iter().take(n) {
+        byte(*b);
     }
 }
 
 pub fn bytes(s: &[u8]) {
-    first(s, s.len());
+    for b in s {
+        byte(*b);
+    }
 }
 
 // Spaces from a column up to another.
 pub fn spaces(from: usize, to: usize) {
-    let mut i = from;
-    while i < to {
+    for _ in from..to {
         space();
-        i += 1;
     }
 }
 
 // The part of s from start on, of so many bytes; nothing where it is not there.
 pub fn part(s: &[u8], start: usize, n: usize) {
-    if s.len() < n {
-        return;
+    if n <= s.len() && start <= s.len() - n {
+        text(&s[start..start + n]);
     }
-    if s.len() - n < start {
-        return;
-    }
-    let end = start + n;
-    text(&s[start..end]);
 }
 
 fn hex_and_dash(n: u64, width: usize) {

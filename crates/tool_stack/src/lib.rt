@@ -4,7 +4,6 @@
 
 mod begun;
 
-use state_readers::{Given, Handle, Passed, Timer};
 use time::Micros;
 use tool_bench::{begin, hear, row};
 
@@ -39,7 +38,9 @@ pub extern "C" fn stack_push_steps(
 ) -> u8 {
     let core = begun::pushed(checks);
     let steps = begun::batch(checks);
-    state_refusals::told_number(script_batch::push_steps(core, tables, store, out, NOW, steps, values).refusal)
+    state_refusals::told_number(
+        script_batch::push_steps(core, tables, store, out, NOW, steps, values).refusal,
+    )
 }
 
 #[unsafe(no_mangle)]
@@ -49,7 +50,9 @@ pub extern "C" fn stack_on_timer(
     store: &mut [u8],
     out: &mut [u8],
 ) -> u8 {
-    state_refusals::told_number(script_events::on_timer(begun::timed(checks), tables, store, out, NOW).refusal)
+    state_refusals::told_number(
+        script_events::on_timer(begun::timed(checks), tables, store, out, NOW).refusal,
+    )
 }
 
 #[unsafe(no_mangle)]
@@ -59,7 +62,9 @@ pub extern "C" fn stack_on_connected(
     store: &mut [u8],
     out: &mut [u8],
 ) -> u8 {
-    state_refusals::told_number(script_events::on_connected(begun::connected(checks), tables, store, out, 64, NOW).refusal)
+    state_refusals::told_number(
+        script_events::on_connected(begun::connected(checks), tables, store, out, 64, NOW).refusal,
+    )
 }
 
 #[unsafe(no_mangle)]
@@ -77,7 +82,9 @@ pub extern "C" fn stack_on_fragment(
     frame: &[u8],
 ) -> u8 {
     let core = begin::core(row::talking(row));
-    state_refusals::told_number(link_call::on_fragment(core, tables, store, out, NOW, true, frame).refusal)
+    state_refusals::told_number(
+        link_call::on_fragment(core, tables, store, out, NOW, true, frame).refusal,
+    )
 }
 
 #[unsafe(no_mangle)]
@@ -107,55 +114,36 @@ pub extern "C" fn stack_on_scan_response(
     data: &[u8],
 ) -> u8 {
     let core = begin::core(begun::connecting());
-    state_refusals::told_number(radio_calls::on_scan_response(core, tables, store, NOW, hear::address(0), data).refusal)
+    state_refusals::told_number(
+        radio_calls::on_scan_response(core, tables, store, NOW, hear::address(0), data).refusal,
+    )
 }
 
 // ---- the readers
 
+fn told<T: Drop>(answer: Result<T, Refusal>) -> u8 {
+    match answer {
+        Err(why) => why.number(),
+        Ok(_) => 0,
+    }
+}
+
 #[unsafe(no_mangle)]
 pub extern "C" fn stack_timer_us(tables: &[u64; 1152], store: &[u8]) -> u8 {
-    match state_readers::timer_us(begin::core(begun::connecting()), tables, store) {
-        Timer::Refused(why) => why,
-        Timer::Never => 0,
-        Timer::At(_) => 0,
-    }
+    told(state_readers::timer_us(begin::core(begun::connecting()), tables, store))
 }
 
 #[unsafe(no_mangle)]
 pub extern "C" fn stack_connected_handle(tables: &[u64; 1152], store: &[u8]) -> u8 {
-    match state_readers::connected_handle(begin::core(begun::connecting()), tables, store) {
-        Handle::Refused(why) => why,
-        Handle::Absent => 0,
-        Handle::Is(_) => 0,
-    }
+    told(state_readers::connected_handle(begin::core(begun::connecting()), tables, store))
 }
 
 #[unsafe(no_mangle)]
 pub extern "C" fn stack_result(tables: &[u64; 1152], store: &[u8], index: u32) -> u8 {
-    match state_readers::result(begin::core(begun::connecting()), tables, store, index) {
-        Given::Refused(why) => why,
-        Given::Nothing => 0,
-        Given::Is {
-            at: _,
-            status: _,
-            place: _,
-            len: _,
-        } => 0,
-    }
+    told(state_readers::result(begin::core(begun::connecting()), tables, store, index))
 }
 
 #[unsafe(no_mangle)]
 pub extern "C" fn stack_passed_on(tables: &[u64; 1152], store: &[u8], index: u32) -> u8 {
-    match state_readers::passed_on(begin::core(begun::connecting()), tables, store, index) {
-        Passed::Refused(why) => why,
-        Passed::Nothing => 0,
-        Passed::Is {
-            at: _,
-            link: _,
-            handle: _,
-            indication: _,
-            place: _,
-            len: _,
-        } => 0,
-    }
+    told(state_readers::passed_on(begin::core(begun::connecting()), tables, store, index))
 }

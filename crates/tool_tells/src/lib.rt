@@ -6,16 +6,11 @@ pub mod names;
 mod pdu;
 pub mod steps;
 
+use bytes_bounds::Span;
 use state::{LinkRequest, Sent};
 use state_readers::Given;
+use state_refusals::Refusal;
 use time::Micros;
-
-// A frame's line: its bytes and what it is; or its time and what it is, for a timeline.
-#[derive(Clone, Copy)]
-enum Line {
-    Bytes,
-    At(Micros),
-}
 
 fn with_bytes(sends: bool, s: &[u8]) {
     if sends {
@@ -46,27 +41,29 @@ fn arrow(at: Micros, sends: bool, s: &[u8]) {
     tool_say::line(b"");
 }
 
-fn frame(line: Line, sends: bool, s: &[u8]) {
-    match line {
-        Line::Bytes => with_bytes(sends, s),
-        Line::At(at) => arrow(at, sends, s),
+// A frame's line: its bytes and what it is; or its time and what it is, for a timeline.
+fn frame(at: Option<Micros>, sends: bool, s: &[u8]) {
+    match at {
+        None => with_bytes(sends, s),
+        Some(at) => arrow(at, sends, s),
     }
 }
 
 // A whole frame that comes in.
 pub fn heard(s: &[u8]) {
-    frame(Line::Bytes, false, s);
+    frame(None, false, s);
 }
 
 pub fn heard_at(at: Micros, s: &[u8]) {
-    frame(Line::At(at), false, s);
+    frame(Some(at), false, s);
 }
 
 // The frames among the first bytes of an output, one after another.
-fn frames(line: Line, out: &[u8], bytes: usize) {
+fn frames(when: Option<Micros>, out: &[u8], bytes: usize) {
     if out.len() < bytes {
         return;
     }
+    // Kept: a while, since each frame tells how far the next one is.
     let mut at = 0;
     while pdu::HEADER <= bytes - at {
         let n = bytes_numbers::le16(out, at) as usize;
@@ -74,7 +71,7 @@ fn frames(line: Line, out: &[u8], bytes: usize) {
             return;
         }
         let end = at + pdu::HEADER + n;
-        frame(line, true, &out[at..end]);
+        frame(when, true, &out[at..end]);
         at = end;
     }
 }
@@ -113,14 +110,14 @@ fn request(r: Option<LinkRequest>) {
 
 // What a call sent: each frame, and the link request if there is one.
 pub fn sent(s: Sent, out: &[u8]) {
-    frames(Line::Bytes, out, s.bytes);
+    frames(None, out, s.bytes);
     let asked = s.request;
     request(asked);
 }
 
 // Each frame that a call sent, in a timeline.
 pub fn sent_at(at: Micros, s: Sent, out: &[u8]) {
-    frames(Line::At(at), out, s.bytes);
+    frames(Some(at), out, s.bytes);
 }
 
 // A moment, as a clock shows it.
@@ -129,40 +126,32 @@ pub fn moment(at: Micros) {
 }
 
 // A result, and its value where it has one. Whether there was one.
-pub fn result(index: u32, g: Given, store: &[u8]) -> bool {
+pub fn result(index: u32, g: Result<Option<Given>, Refusal>, store: &[u8]) -> bool {
     match g {
-        Given::Refused(why) => {
-            codes::refused(why);
+        Err(why) => {
+            codes::refused(Some(why));
             false
         }
-        Given::Nothing => false,
-        Given::Is {
-            at,
-            status,
-            place,
-            len,
-        } => {
+        Ok(None) => false,
+        Ok(Some(g)) => {
             tool_say::told(b"    step ", index as u64, b" ended: ");
-            codes::status(status);
+            codes::status(g.status);
             tool_say::text(b", at ");
-            moment(at);
-            value(value_at(store, place, len));
+            moment(g.at);
+            value(value_at(store, g.value));
             tool_say::line(b"");
             true
         }
     }
 }
 
-// The len bytes of the store from place on; none where they are not there.
-pub fn value_at(store: &[u8], place: usize, len: usize) -> &[u8] {
-    if store.len() < len {
-        return &store[0..0];
+// The bytes of the store that stand at x; none where they are not there.
+pub fn value_at(store: &[u8], x: Span) -> &[u8] {
+    if bytes_bounds::is_inside(store.len(), x.at, x.len) {
+        &store[x.at..x.at + x.len]
+    } else {
+        &store[0..0]
     }
-    if store.len() - len < place {
-        return &store[0..0];
-    }
-    let end = place + len;
-    &store[place..end]
 }
 
 fn value(v: &[u8]) {

@@ -21,15 +21,12 @@ const VALUE_AT: usize = BODY_AT + 2;
 const ENTRIES_AT: usize = BODY_AT + 1;
 
 fn byte(s: &[u8], at: usize) -> u8 {
-    if at < s.len() { s[at] } else { 0 }
+    s.get(at).copied().unwrap_or(0)
 }
 
 // The bytes from n on.
 fn after(s: &[u8], n: usize) -> &[u8] {
-    if s.len() < n {
-        return &s[0..0];
-    }
-    &s[n..]
+    s.get(n..).unwrap_or(&s[..0])
 }
 
 // Words and the number of two bytes.
@@ -51,33 +48,23 @@ fn error(s: &[u8]) {
 
 // ---- the entries of an answer
 
-// Start, end and UUID.
-fn service(e: &[u8]) {
+// The UUID of an entry and, behind words, a handle of it.
+fn listed(e: &[u8], uuid_at: usize, words: &[u8], handle_at: usize) {
     tool_say::text(b": ");
-    names::carried(after(e, 4));
-    number(b", handles ", e, 0);
-    number(b" to ", e, 2);
+    names::carried(after(e, uuid_at));
+    number(words, e, handle_at);
 }
 
-// Declaration, properties, the handle of the value, UUID.
-fn characteristic(e: &[u8]) {
-    tool_say::text(b": ");
-    names::carried(after(e, 5));
-    number(b", value at handle ", e, 3);
-}
-
-// Handle and UUID.
-fn descriptor(e: &[u8]) {
-    tool_say::text(b": ");
-    names::carried(after(e, 2));
-    number(b", handle ", e, 0);
-}
-
+// A service has a start, an end and a UUID; a characteristic a declaration, properties, the handle of its value and a UUID; a
+// descriptor a handle and a UUID.
 fn entry(opcode: u8, e: &[u8]) {
     match opcode {
-        op::READ_BY_GROUP_TYPE_RSP => service(e),
-        op::READ_BY_TYPE_RSP => characteristic(e),
-        _ => descriptor(e),
+        op::READ_BY_GROUP_TYPE_RSP => {
+            listed(e, 4, b", handles ", 0);
+            number(b" to ", e, 2);
+        }
+        op::READ_BY_TYPE_RSP => listed(e, 5, b", value at handle ", 3),
+        _ => listed(e, 2, b", handle ", 0),
     }
 }
 
@@ -86,11 +73,8 @@ fn entries(opcode: u8, body: &[u8], width: usize) {
     if width == 0 {
         return;
     }
-    let mut i: usize = 0;
-    while width <= body.len() - i {
-        let next = i + width;
-        entry(opcode, &body[i..next]);
-        i = next;
+    for e in body.chunks_exact(width) {
+        entry(opcode, e);
     }
 }
 
@@ -119,6 +103,8 @@ fn read(s: &[u8]) {
     let n = after(s, BODY_AT).len();
     tool_say::told(b"a value of ", n as u64, b" bytes");
 }
+
+// Kept: a match on the opcode in five functions, each short; closures would name the same opcodes.
 
 // The answer to a read or a write, a notification or an indication.
 fn value(s: &[u8], opcode: u8) {

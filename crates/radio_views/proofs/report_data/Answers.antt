@@ -1,27 +1,8 @@
-use native.Mathlib.Omega.{arith}
-use lib.ListN.{length}
-use Rattle.radio_sights.specs.View.{data_in}
-use Rattle.radio_views.proofs.ViewLaws.{data-inside, part-as}
+use Rattle.std.proofs.Common.{length}
+use Rattle.radio_views.proofs.ViewLaws.{data-inside}
 use Rattle.radio_views.proofs.report_data.Goals as goal
 
-pub overflow_add-to : goal.overflow_add-to
-overflow_add-to c =
+pub part-requires : goal.part-requires
+part-requires c =
     let a = c.args in
-    let seen = c.report in
-    let bytes = c.data_in-x in
-    omega (arith, data-inside a.core a.tables.now (length a.store.now) a.i seen.result bytes.result seen.ensures bytes.ensures)
-
-pub slice_bounds-result-end : goal.slice_bounds-result-end
-slice_bounds-result-end c =
-    let a = c.args in
-    let seen = c.report in
-    let bytes = c.data_in-x in
-    data-inside a.core a.tables.now (length a.store.now) a.i seen.result bytes.result seen.ensures bytes.ensures
-
-pub returns : goal.returns
-returns c =
-    let a = c.args in
-    let seen = c.report in
-    let bytes = c.data_in-x in
-    let both = part-as a.core a.tables.now a.store.now a.i seen.result seen.ensures data_in a.store.ref_ptr bytes.result bytes.ensures in
-    record { result_value = both.0; ref_ptr_value = both.1 }
+    data-inside a.core a.tables.now (length a.store.now) a.i c.report.result _ c.report.ensures c.data_in-x.ensures

@@ -1,6 +1,4 @@
-use Prim.Native.Nat.{◌-◌}
-use mathlib.Core.Path.{refl}
-use native.Mathlib.Omega.{arith}
+use Rattle.std.proofs.Common.{◌-◌, refl, arith}
 use Rattle.words.specs.Tables.{notifications_in}
 use Rattle.words.proofs.RowLaws.{length-notifications}
 use Rattle.state_readers.proofs.PassedLaws.{named-before, named-behind, named_here}
@@ -22,4 +20,4 @@ returns c =
     let a = c.args in
     named_here a.first a.heard a.count (notifications_in a.tables.now) (omega (arith, length-notifications a.tables.now))
     (a.heard - 1 - a.first) _ _ _ (omega arith) refl (omega arith)
-    c.notification_at-x.ensures c.notification_at-place.ensures c.wide-len.ensures
+    c.notification_at-x.ensures c.notification_at.ensures c.from.ensures

@@ -1,7 +1,0 @@
-use Rattle.state_readers.proofs.timer_of.Goals as goal
-
-pub returns-then-r : goal.returns-then-r
-returns-then-r c = rw (c.if-r.true)
-
-pub returns : goal.returns
-returns c = rw (c.if-r.false)
