@@ -53,7 +53,7 @@ fn give_fragment(core: &mut [u64; 37], told: &mut [u64; 8], a: Answer<Core, Sent
     ensures { (told.new ≡ answer_words (told_number a.refusal) a.gives) × GivenFragment (told_number a.refusal) a.state core.old core.new }
 {
     *told = c_told::answer_words(state_refusals::told_number(a.refusal), a.gives);
-    if a.refusal == Some(Refusal::LongFrame) {
+    if let Some(Refusal::LongFrame) = a.refusal {
         core[c_core::HELD] = 0;
         return;
     }

@@ -1,26 +1,18 @@
 -- What each return of the held bytes asks.
 use Prim.Native.Nat.{ℕ, ◌+◌, ◌-◌, ◌≤◌, ◌<◌}
-use mathlib.Core.Path.{◌≡◌, refl, ap, ◌∙◌}
-use mathlib.Core.Bool.{Bool, true, false, not, ◌&&◌}
+use mathlib.Core.Path.{◌≡◌, ap, ◌∙◌}
+use mathlib.Core.Bool.{Bool, false}
 use mathlib.Core.List.{List}
 use native.Mathlib.Omega.{arith}
 use lib.ListN.{length}
-use lib.Dec.{eqb, leb}
+use lib.Dec.{leb}
 use borrow.Author.Tests.{lt-leb, le-leb}
 use Rattle.bytes_base.specs.Bytes.{le_at}
 use Rattle.bytes_base.specs.Splice.{splice}
 use Rattle.bytes_base.proofs.TestLaws.{fits-less}
-use Rattle.state_places.specs.Sizes.{held_at, store_size, output_size}
-use Rattle.time.specs.declared.Micros.{Micros}
-use Rattle.time.specs.Clock.{too_late}
+use Rattle.state_places.specs.Sizes.{held_at}
 use Rattle.state.specs.Central.{Central}
-use Rattle.state_rules.specs.Fit.{fits}
-use Rattle.state_rules.specs.Gate.{first_refusal, gate}
-use Rattle.state_refusals.specs.declared.Refusal.{Refusal}
-use Rattle.state_refusals.specs.declared.Refusal.TheVariants.{Unfit, WrongSize, LateTime, BadBatch, CounterFull, LongData, LongFrame, KeysFull}
-use Rattle.state_refusals.specs.Refusals.{long_frame, number}
-use Rattle.link_rules.specs.Fragment.{with_held, held_before, gathered, whole, gate_fragment, refusing}
-use Rattle.link_rules.proofs.FragmentLaws as old
+use Rattle.link_rules.specs.Fragment.{with_held, held_before, gathered, whole}
 use Rattle.state_core.specs.declared.Core.{Core}
 use Rattle.state_core.specs.Reading.{central, held}
 
@@ -46,22 +38,3 @@ module _ (c : Core) (st : List ℕ) where
   whole-law n h f w =
       rw (le-leb 4 c.bearer.held h, ← f)
       (fits-less c.bearer.held n 4 h ∙ ap (λ (m : ℕ). leb m c.bearer.held) (omega arith))
-
--- ---- refusals
-
-pub refusing-long : (c r : Core) (why : ℕ) → why ≡ long_frame → ((w : List ℕ) → central r w ≡ with_held (central c w) 0)
-    → (w : List ℕ) → central r w ≡ refusing (central c w) why
-refusing-long c r why h e w = old.refusing-long (central c w) (central r w) why h (e w)
-
-pub refusing-else : (c : Core) (why : Refusal) → (why ≡ LongFrame → ⊥) → (w : List ℕ) → central c w ≡ refusing (central c w) (number why)
-refusing-else c why h w = old.refusing-else (central c w) (central c w) (number why) (λ e. h (long-alone why e))
-  where
-    long-alone : (x : Refusal) → number x ≡ long_frame → x ≡ LongFrame
-    long-alone Unfit e = absurd (omega arith)
-    long-alone WrongSize e = absurd (omega arith)
-    long-alone LateTime e = absurd (omega arith)
-    long-alone BadBatch e = absurd (omega arith)
-    long-alone CounterFull e = absurd (omega arith)
-    long-alone LongData e = absurd (omega arith)
-    long-alone LongFrame e = refl
-    long-alone KeysFull e = absurd (omega arith)

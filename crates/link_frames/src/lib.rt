@@ -92,8 +92,8 @@ pub fn gate_fragment(
 pub fn refusing(c: Core, why: Refusal) -> Core
     ensures { (w : List ℕ) → central result w ≡ refusing (central c w) (number why) }
 {
-    if why == Refusal::LongFrame {
-        return with_held(c, 0);
+    match why {
+        Refusal::LongFrame => with_held(c, 0),
+        _ => c,
     }
-    c
 }

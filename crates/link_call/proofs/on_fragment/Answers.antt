@@ -1,12 +1,43 @@
+use mathlib.Core.Path.{refl, ap}
+use Rattle.state.specs.declared.Sent.{Sent}
+use Rattle.state_refusals.specs.Refusals.{number, told_number}
+use Rattle.state_refusals.proofs.RefusalLaws.{not-accepted}
+use Rattle.state_core.specs.declared.Core.{Core}
 use Rattle.state_core.specs.Reading.{central}
+use Rattle.central_answers.specs.declared.Answer.{Answer}
+use Rattle.central_answers.proofs.AnswerLaws.{refused-told, done-told, not-refused}
 use Rattle.link_call.proofs.CallLaws.{may-hear, fragment-done, fragment-refused, left-core, leaves}
 use Rattle.link_call.proofs.on_fragment.Goals as goal
 
 pub hear-t-requires : goal.hear-t-requires
-hear-t-requires c = may-hear (central c.args.core c.args.tables.now) c.args.store.now c.args.out.now c.args.at c.args.start c.args.fragment.now _ (c.gate_fragment-refusal.ensures) (c.if-refusal-eq-ACCEPTED.true) _ (c.begin-begun.ensures c.args.tables.now c.args.store.now c.args.out.now)
+hear-t-requires c =
+    let a = c.args in
+    may-hear (central a.core a.tables.now) a.store.now a.out.now a.at a.start a.fragment.now
+    _ c.in_default.ensures refl
+    _ (c.begin-begun.ensures a.tables.now a.store.now a.out.now)
 
-pub returns-then-refusal-eq-ACCEPTED : goal.returns-then-refusal-eq-ACCEPTED
-returns-then-refusal-eq-ACCEPTED c = record { out_after = fragment-done (central c.args.core c.args.tables.now) c.args.store.now c.args.out.now c.args.at c.args.start c.args.fragment.now _ (c.gate_fragment-refusal.ensures) (c.if-refusal-eq-ACCEPTED.true) _ (c.begin-begun.ensures c.args.tables.now c.args.store.now c.args.out.now) _ _ (c.hear-t.ensures) (c.done.ensures.1 _ _ _); refused = ((λ h. absurd (h (c.done.ensures.0))), λ h. absurd (h (c.done.ensures.0))) }
+pub returns-in-Err : goal.returns-in-Err
+returns-in-Err c =
+    let a = c.args in
+    let why = c.in-Err.why in
+    let left = c.refusing-left.ensures a.tables.now in record {
+      out_after = fragment-refused (central a.core a.tables.now) a.store.now a.out.now a.at a.start a.fragment.now
+          _ c.in-Err.ensures
+          _ _ (not-accepted why) left
+          (refused-told _ why _ c.refuse.ensures _ _ _);
+      refused = leaves a.core _ _ _ _ _ (number why) _
+          (left-core a.core c.refusing-left.result a.tables.now (number why) left)
+          (ap (λ (x : Answer Core Sent). x.state) c.refuse.ensures)
+          (ap (λ (x : Answer Core Sent). told_number x.refusal) c.refuse.ensures);
+    }
 
 pub returns : goal.returns
-returns c = record { out_after = fragment-refused (central c.args.core c.args.tables.now) c.args.store.now c.args.out.now c.args.at c.args.start c.args.fragment.now _ (c.gate_fragment-refusal.ensures) _ _ (c.if-refusal-eq-ACCEPTED.false) (c.refusing-left.ensures c.args.tables.now) (c.refuse.ensures.2 _ _ _); refused = leaves c.args.core _ _ _ _ _ _ _ (left-core c.args.core (c.refusing-left.result) c.args.tables.now (c.gate_fragment-refusal.result) (c.refusing-left.ensures c.args.tables.now)) (c.refuse.ensures.0) (c.refuse.ensures.1) }
+returns c =
+    let a = c.args in record {
+      out_after = fragment-done (central a.core a.tables.now) a.store.now a.out.now a.at a.start a.fragment.now
+          _ c.in_default.ensures refl
+          _ (c.begin-begun.ensures a.tables.now a.store.now a.out.now)
+          _ _ c.hear-t.ensures
+          (done-told _ _ c.done.ensures _ _ _);
+      refused = (not-refused _ _ _ c.done.ensures, not-refused _ _ _ c.done.ensures);
+    }
