@@ -2,12 +2,14 @@
 use Prim.Native.Nat.{ℕ, zero, suc}
 use mathlib.Core.Path.{◌≡◌, refl, sym, ap, ◌∙◌}
 use mathlib.Core.List.{List}
+use Rattle.std.specs.Prelude.{⊤}
 use native.Mathlib.Omega.{arith}
 use lib.Dec.{eqb}
 use Rattle.bytes_base.specs.Choice.{pick}
 use Rattle.state.specs.Central.{Central}
 use Rattle.state.specs.declared.Address.{Address}
-use Rattle.state_refusals.specs.Refusals.{accepted, long_frame}
+use Rattle.state.specs.declared.Sent.{Sent}
+use Rattle.state_refusals.specs.Refusals.{accepted, long_frame, told_number}
 use Rattle.script_rules.specs.declared.Batch.{Batch}
 use Rattle.script_rules.specs.Outcome.{Outcome, Quiet}
 use Rattle.radio_match.specs.declared.AdvAction.{AdvAction}
@@ -39,36 +41,36 @@ said why c k left core' h l m n = by-refusal why m (λ z. ap core_in (n z) ∙ h
 module _ (f : Central → Outcome) (core tables store out : List ℕ) (d : Core) (e : d ≡ core_in core)
     (a : Answer Core Sent) (tables' store' out' : List ℕ) (g : answers.outcome a tables' store' out' ≡ f (central d tables))
     (left : List ℕ) (k : Core) (h : core_in left ≡ k)
-    (l : answers.Leaves a.refusal k a.core tables tables' store store' × ((a.refusal ≡ 0 → ⊥) → out' ≡ out))
-    (core' told : List ℕ) (t : told ≡ answer_words a.refusal a.sent)
-    (m : a.refusal ≡ accepted → core_in core' ≡ a.core) (n : (a.refusal ≡ accepted → ⊥) → core' ≡ left) where
-  why : refusal_in told ≡ a.refusal
-  why = ap refusal_in t ∙ answer-refusal a.refusal a.sent
+    (l : answers.Leaves (told_number a.refusal) k a.state tables tables' store store' × (((told_number a.refusal) ≡ 0 → ⊥) → out' ≡ out))
+    (core' told : List ℕ) (t : told ≡ answer_words (told_number a.refusal) a.gives)
+    (m : (told_number a.refusal) ≡ accepted → core_in core' ≡ a.state) (n : ((told_number a.refusal) ≡ accepted → ⊥) → core' ≡ left) where
+  why : refusal_in told ≡ (told_number a.refusal)
+  why = ap refusal_in t ∙ answer-refusal (told_number a.refusal) a.gives
 
-  what : sent_in told ≡ a.sent
-  what = ap sent_in t ∙ answer-sent a.refusal a.sent
+  what : sent_in told ≡ a.gives
+  what = ap sent_in t ∙ answer-sent (told_number a.refusal) a.gives
 
   does : outcome told core' tables' store' out' ≡ f (central (core_in core) tables)
   does =
       let o : outcome told core' tables' store' out' ≡ answers.outcome a tables' store' out' =
-      rw (said a.refusal a.core k left core' h (λ z. (l.0 z).0) m n, why, what) in
+      rw (said (told_number a.refusal) a.state k left core' h (λ z. (l.0 z).0) m n, why, what) in
       o ∙ g ∙ ap (λ (x : Core). f (central x tables)) e
 
   keeps : (refusal_in told ≡ accepted → ⊥) → (core' ≡ left) × (tables' ≡ tables) × (store' ≡ store) × (out' ≡ out)
-  keeps z = let y : a.refusal ≡ accepted → ⊥ = λ x. z (why ∙ x) in (n y, (l.0 y).1, (l.0 y).2, l.1 y)
+  keeps z = let y : (told_number a.refusal) ≡ accepted → ⊥ = λ x. z (why ∙ x) in (n y, (l.0 y).1, (l.0 y).2, l.1 y)
 
   tells : Answered told
-  tells = let x : answer_words (refusal_in told) (sent_in told) ≡ answer_words a.refusal a.sent = rw (why, what) in t ∙ sym x
+  tells = let x : answer_words (refusal_in told) (sent_in told) ≡ answer_words (told_number a.refusal) a.gives = rw (why, what) in t ∙ sym x
 
-  answered : (refusal_in told ≡ a.refusal) × (outcome told core' tables' store' out' ≡ f (central (core_in core) tables))
+  answered : (refusal_in told ≡ (told_number a.refusal)) × (outcome told core' tables' store' out' ≡ f (central (core_in core) tables))
       × ((refusal_in told ≡ accepted → ⊥) → (core' ≡ left) × (tables' ≡ tables) × (store' ≡ store) × (out' ≡ out)) × Answered told
   answered = (why, does, keeps, tells)
 
 module _ (f : Central → Outcome) (core tables store out : List ℕ) (d : Core) (e : d ≡ core_in core)
     (a : Answer Core Sent) (tables' store' out' : List ℕ) (g : answers.outcome a tables' store' out' ≡ f (central d tables)) where
   pub exported :
-      (l : answers.Leaves a.refusal d a.core tables tables' store store' × ((a.refusal ≡ 0 → ⊥) → out' ≡ out))
-      (core' told : List ℕ) (m : (told ≡ answer_words a.refusal a.sent) × Given a.refusal a.core core core')
+      (l : answers.Leaves (told_number a.refusal) d a.state tables tables' store store' × (((told_number a.refusal) ≡ 0 → ⊥) → out' ≡ out))
+      (core' told : List ℕ) (m : (told ≡ answer_words (told_number a.refusal) a.gives) × Given (told_number a.refusal) a.state core core')
       → (outcome told core' tables' store' out' ≡ f (central (core_in core) tables))
       × (Kept told core tables store out core' tables' store' out' × Answered told)
   exported l core' told m =
@@ -76,22 +78,22 @@ module _ (f : Central → Outcome) (core tables store out : List ℕ) (d : Core)
       (r.1, (r.2, r.3))
 
   pub exported-fragment :
-      (l : FragmentLeaves a.refusal d a.core tables tables' store store' × ((a.refusal ≡ 0 → ⊥) → out' ≡ out))
-      (core' told : List ℕ) (m : (told ≡ answer_words a.refusal a.sent) × GivenFragment a.refusal a.core core core')
+      (l : FragmentLeaves (told_number a.refusal) d a.state tables tables' store store' × (((told_number a.refusal) ≡ 0 → ⊥) → out' ≡ out))
+      (core' told : List ℕ) (m : (told ≡ answer_words (told_number a.refusal) a.gives) × GivenFragment (told_number a.refusal) a.state core core')
       → (outcome told core' tables' store' out' ≡ f (central (core_in core) tables))
       × (KeptFragment told core tables store out core' tables' store' out' × Answered told)
   exported-fragment l core' told m =
-      let k = pick (eqb a.refusal long_frame) (emptied d) d in
+      let k = pick (eqb (told_number a.refusal) long_frame) (emptied d) d in
       let r =
-      answered f core tables store out d e a tables' store' out' g (emptied_if a.refusal core) k (left-core a.refusal core d e)
+      answered f core tables store out d e a tables' store' out' g (emptied_if (told_number a.refusal) core) k (left-core (told_number a.refusal) core d e)
       l core' told m.0 m.1.0 m.1.1 in
       (r.1, (λ z. let q = r.2 z in (q.0 ∙ ap (λ (x : ℕ). emptied_if x core) (sym r.0), q.1, q.2, q.3), r.3))
 
 -- of a batch that is told in words
 pub exported-batch : (f : Batch → Central → Outcome) (core tables store out : List ℕ) (d : Core) (e : d ≡ core_in core) (b batch : Batch) (i : b ≡ batch)
     (a : Answer Core Sent) (tables' store' out' : List ℕ) (g : answers.outcome a tables' store' out' ≡ f b (central d tables))
-    (l : answers.Leaves a.refusal d a.core tables tables' store store' × ((a.refusal ≡ 0 → ⊥) → out' ≡ out))
-    (core' told : List ℕ) (m : (told ≡ answer_words a.refusal a.sent) × Given a.refusal a.core core core')
+    (l : answers.Leaves (told_number a.refusal) d a.state tables tables' store store' × (((told_number a.refusal) ≡ 0 → ⊥) → out' ≡ out))
+    (core' told : List ℕ) (m : (told ≡ answer_words (told_number a.refusal) a.gives) × Given (told_number a.refusal) a.state core core')
     → (outcome told core' tables' store' out' ≡ f batch (central (core_in core) tables))
     × (Kept told core tables store out core' tables' store' out' × Answered told)
 exported-batch f core tables store out d e b batch i a tables' store' out' g l core' told m =
@@ -110,15 +112,15 @@ refused-whole why told t =
 
 module _ (f : Central → Quiet) (core tables store : List ℕ) (d : Core) (e : d ≡ core_in core)
     (a : Answer Core ⊤) (tables' store' : List ℕ) (g : answers.quiet a tables' store' ≡ f (central d tables))
-    (l : answers.Leaves a.refusal d a.core tables tables' store store')
-    (core' told : List ℕ) (m : (told ≡ refusal_words a.refusal) × Given a.refusal a.core core core') where
+    (l : answers.Leaves (told_number a.refusal) d a.state tables tables' store store')
+    (core' told : List ℕ) (m : (told ≡ refusal_words (told_number a.refusal)) × Given (told_number a.refusal) a.state core core') where
   pub exported-quietly : (quiet told core' tables' store' ≡ f (central (core_in core) tables)) × (KeptQuietly told core tables store core' tables' store' × Refused told)
   exported-quietly =
-      let why : refusal_in told ≡ a.refusal = ap refusal_in m.0 ∙ quiet-refusal a.refusal in
+      let why : refusal_in told ≡ (told_number a.refusal) = ap refusal_in m.0 ∙ quiet-refusal (told_number a.refusal) in
       let o : quiet told core' tables' store' ≡ answers.quiet a tables' store' =
-      rw (said a.refusal a.core d core core' (sym e) (λ z. (l z).0) m.1.0 m.1.1, why) in (
+      rw (said (told_number a.refusal) a.state d core core' (sym e) (λ z. (l z).0) m.1.0 m.1.1, why) in (
         o ∙ g ∙ ap (λ (x : Core). f (central x tables)) e,
-        (keeps-quietly a.refusal d a.core core tables store core' tables' store' told why l m.1, refused-whole a.refusal told m.0),
+        (keeps-quietly (told_number a.refusal) d a.state core tables store core' tables' store' told why l m.1, refused-whole (told_number a.refusal) told m.0),
       )
 
 -- ---- the radio's, from an address that is told as a number
@@ -137,26 +139,26 @@ module _ (f : Address → Central → hearing.Outcome) (core tables store : List
       o ∙ g ∙ ap (λ (x : Address). f x (central d tables)) i ∙ ap (λ (x : Core). f address (central x tables)) e
 
   pub exported-action : (a : Answer Core AdvAction) (tables' store' : List ℕ) → radio.outcome a tables' store' ≡ f who (central d tables)
-      → answers.Leaves a.refusal d a.core tables tables' store store'
-      → (core' told : List ℕ) → (told ≡ advertised_words a.refusal a.action) × Given a.refusal a.core core core'
+      → answers.Leaves (told_number a.refusal) d a.state tables tables' store store'
+      → (core' told : List ℕ) → (told ≡ advertised_words (told_number a.refusal) a.gives) × Given (told_number a.refusal) a.state core core'
       → (heard told core' tables' store' ≡ f address (central (core_in core) tables)) × (KeptQuietly told core tables store core' tables' store' × Acted told)
   exported-action a tables' store' g l core' told m =
-      let why : refusal_in told ≡ a.refusal = ap refusal_in m.0 ∙ advertised-refusal a.refusal a.action in
-      let act : action_in told ≡ a.action = ap action_in m.0 ∙ advertised-action a.refusal a.action in
-      let x : advertised_words (refusal_in told) (action_in told) ≡ advertised_words a.refusal a.action = rw (why, act) in (
-        hears a.refusal a.core a.action tables' store' g l core' told why act m.1,
-        (keeps-quietly a.refusal d a.core core tables store core' tables' store' told why l m.1, m.0 ∙ sym x),
+      let why : refusal_in told ≡ (told_number a.refusal) = ap refusal_in m.0 ∙ advertised-refusal (told_number a.refusal) a.gives in
+      let act : action_in told ≡ a.gives = ap action_in m.0 ∙ advertised-action (told_number a.refusal) a.gives in
+      let x : advertised_words (refusal_in told) (action_in told) ≡ advertised_words (told_number a.refusal) a.gives = rw (why, act) in (
+        hears (told_number a.refusal) a.state a.gives tables' store' g l core' told why act m.1,
+        (keeps-quietly (told_number a.refusal) d a.state core tables store core' tables' store' told why l m.1, m.0 ∙ sym x),
       )
 
   pub exported-response : (a : Answer Core ⊤) (tables' store' : List ℕ) → radio.taken a tables' store' ≡ f who (central d tables)
-      → answers.Leaves a.refusal d a.core tables tables' store store'
-      → (core' told : List ℕ) → (told ≡ refusal_words a.refusal) × Given a.refusal a.core core core'
+      → answers.Leaves (told_number a.refusal) d a.state tables tables' store store'
+      → (core' told : List ℕ) → (told ≡ refusal_words (told_number a.refusal)) × Given (told_number a.refusal) a.state core core'
       → (heard told core' tables' store' ≡ f address (central (core_in core) tables)) × (KeptQuietly told core tables store core' tables' store' × Refused told)
   exported-response a tables' store' g l core' told m =
-      let why : refusal_in told ≡ a.refusal = ap refusal_in m.0 ∙ quiet-refusal a.refusal in
-      let act : action_in told ≡ action.Nothing = ap action_in m.0 ∙ quiet-action a.refusal in (
-        hears a.refusal a.core action.Nothing tables' store' g l core' told why act m.1,
-        (keeps-quietly a.refusal d a.core core tables store core' tables' store' told why l m.1, refused-whole a.refusal told m.0),
+      let why : refusal_in told ≡ (told_number a.refusal) = ap refusal_in m.0 ∙ quiet-refusal (told_number a.refusal) in
+      let act : action_in told ≡ action.Nothing = ap action_in m.0 ∙ quiet-action (told_number a.refusal) in (
+        hears (told_number a.refusal) a.state action.Nothing tables' store' g l core' told why act m.1,
+        (keeps-quietly (told_number a.refusal) d a.state core tables store core' tables' store' told why l m.1, refused-whole (told_number a.refusal) told m.0),
       )
 
 -- ---- a call that only reads

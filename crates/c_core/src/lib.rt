@@ -104,6 +104,7 @@ pub const IN_32_BITS: u64 = 4_294_967_296;
 
 // ---- the parts from their words
 
+// Kept: beside c_steps::flat_at, since here each word has its name and is there; a lent step's words may be missing.
 fn flat_in(w: &[u64; 37]) -> Flat
     ensures { result ≡ flat_in w.now }
 {
@@ -242,32 +243,30 @@ pub fn decode(w: &[u64; 37]) -> Core
 }
 
 // ---- one number's word
+// Kept: a function for each width, since encode's proof takes from its contract that the word says the field again.
 
 fn byte(x: u8) -> u64
     ensures { result % 256 ≡ x }
 {
-    x as u64
+    u64::from(x)
 }
 
 fn half(x: u16) -> u64
     ensures { result % two16 ≡ x }
 {
-    x as u64
+    u64::from(x)
 }
 
 fn long(x: u32) -> u64
     ensures { result % two32 ≡ x }
 {
-    x as u64
+    u64::from(x)
 }
 
 fn bit(x: bool) -> u64
     ensures { flag_in result ≡ x }
 {
-    if x {
-        return 1;
-    }
-    0
+    u64::from(x)
 }
 
 // Words that say the core.

@@ -23,10 +23,7 @@ const LEN: usize = 11;
 fn word(steps: &[u64], i: usize) -> u64
     ensures { result ≡ get_or steps.now i 0 }
 {
-    if i < steps.len() {
-        return steps[i];
-    }
-    0
+    steps.get(i).copied().unwrap_or(0)
 }
 
 fn byte(steps: &[u64], i: usize) -> u8
@@ -103,11 +100,8 @@ pub fn batch_of(steps: &[u64], count: usize) -> Batch
         len: 0,
     };
     let mut all = [none; 64];
-    let mut i = 0;
-    while i < 64 {
-        let at = SIZE * i;
-        all[i] = placed_at(steps, at);
-        i += 1;
+    for (i, placed) in all.iter_mut().enumerate() {
+        *placed = placed_at(steps, SIZE * i);
     }
     Batch { steps: all, count }
 }

@@ -38,10 +38,12 @@ pub fn push_steps(
     ensures { outcome result store.new out.new ≡ push_steps (reading state) store.old out.old at batch values.now }
 {
     let mut tables = state.tables;
-    let a = script_batch::push_steps(
-        state.core, &mut tables, store, out, at, batch, values);
+    let a = script_batch::push_steps(state.core, &mut tables, store, out, at, batch, values);
     Answer {
-        state: State { core: a.state, tables },
+        state: State {
+            core: a.state,
+            tables,
+        },
         refusal: a.refusal,
         gives: a.gives,
     }
@@ -52,10 +54,12 @@ pub fn on_timer(state: State, store: &mut [u8], out: &mut [u8], at: Micros) -> A
     ensures { outcome result store.new out.new ≡ on_timer (reading state) store.old out.old at }
 {
     let mut tables = state.tables;
-    let a = script_events::on_timer(
-        state.core, &mut tables, store, out, at);
+    let a = script_events::on_timer(state.core, &mut tables, store, out, at);
     Answer {
-        state: State { core: a.state, tables },
+        state: State {
+            core: a.state,
+            tables,
+        },
         refusal: a.refusal,
         gives: a.gives,
     }
@@ -72,10 +76,12 @@ pub fn on_connected(
     ensures { outcome result store.new out.new ≡ on_connected (reading state) store.old out.old handle at }
 {
     let mut tables = state.tables;
-    let a = script_events::on_connected(
-        state.core, &mut tables, store, out, handle, at);
+    let a = script_events::on_connected(state.core, &mut tables, store, out, handle, at);
     Answer {
-        state: State { core: a.state, tables },
+        state: State {
+            core: a.state,
+            tables,
+        },
         refusal: a.refusal,
         gives: a.gives,
     }
@@ -86,10 +92,12 @@ pub fn on_disconnected(state: State, store: &mut [u8], at: Micros) -> Answer<Sta
     ensures { quiet result store.new ≡ on_disconnected (reading state) store.old at }
 {
     let mut tables = state.tables;
-    let a = script_events::on_disconnected(
-        state.core, &mut tables, store, at);
+    let a = script_events::on_disconnected(state.core, &mut tables, store, at);
     Answer {
-        state: State { core: a.state, tables },
+        state: State {
+            core: a.state,
+            tables,
+        },
         refusal: a.refusal,
         gives: a.gives,
     }
@@ -107,10 +115,12 @@ pub fn on_fragment(
     ensures { outcome result store.new out.new ≡ on_fragment (reading state) store.old out.old at start fragment.now }
 {
     let mut tables = state.tables;
-    let a = link_call::on_fragment(
-        state.core, &mut tables, store, out, at, start, fragment);
+    let a = link_call::on_fragment(state.core, &mut tables, store, out, at, start, fragment);
     Answer {
-        state: State { core: a.state, tables },
+        state: State {
+            core: a.state,
+            tables,
+        },
         refusal: a.refusal,
         gives: a.gives,
     }
@@ -143,7 +153,10 @@ pub fn on_advertising(
         to_central,
     );
     Answer {
-        state: State { core: a.state, tables },
+        state: State {
+            core: a.state,
+            tables,
+        },
         refusal: a.refusal,
         gives: a.gives,
     }
@@ -160,10 +173,12 @@ pub fn on_scan_response(
     ensures { heard result store.new ≡ scan_responded (reading state) store.old at address «data».now }
 {
     let mut tables = state.tables;
-    let a = radio_calls::on_scan_response(
-        state.core, &mut tables, store, at, address, data);
+    let a = radio_calls::on_scan_response(state.core, &mut tables, store, at, address, data);
     Answer {
-        state: State { core: a.state, tables },
+        state: State {
+            core: a.state,
+            tables,
+        },
         refusal: a.refusal,
         gives: a.gives,
     }

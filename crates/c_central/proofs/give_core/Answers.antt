@@ -1,8 +1,9 @@
-use mathlib.Core.Path.{refl}
+use mathlib.Core.Path.{refl, sym, ◌∙◌}
+use Rattle.c_central.proofs.WordLaws.{none-told, some-told}
 use Rattle.c_central.proofs.give_core.Goals as goal
 
-pub returns-then-refusal-eq-ACCEPTED : goal.returns-then-refusal-eq-ACCEPTED
-returns-then-refusal-eq-ACCEPTED c = (λ h. c.encode.ensures, λ h. absurd (h c.if-refusal-eq-ACCEPTED.true))
+pub returns-then-is_none : goal.returns-then-is_none
+returns-then-is_none c = (λ h. c.encode.ensures, λ h. absurd (h (none-told c.args.refusal (sym c.is_none.ensures ∙ c.if-is_none.true))))
 
-pub returns-else-refusal-eq-ACCEPTED : goal.returns-else-refusal-eq-ACCEPTED
-returns-else-refusal-eq-ACCEPTED c = (λ h. absurd (c.if-refusal-eq-ACCEPTED.false h), λ h. refl)
+pub returns-else-is_none : goal.returns-else-is_none
+returns-else-is_none c = (λ h. absurd (some-told c.args.refusal (sym c.is_none.ensures ∙ c.if-is_none.false) h), λ h. refl)
