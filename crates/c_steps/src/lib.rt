@@ -100,8 +100,8 @@ pub fn batch_of(steps: &[u64], count: usize) -> Batch
         len: 0,
     };
     let mut all = [none; 64];
-    for (i, placed) in all.iter_mut().enumerate() {
-        *placed = placed_at(steps, SIZE * i);
+    for i in 0..64 {
+        all[i] = placed_at(steps, SIZE * i);
     }
     Batch { steps: all, count }
 }
