@@ -7,6 +7,7 @@ use native.Mathlib.Omega.{arith}
 use lib.ListN.{length, get_or, set, length-set}
 use lib.Seq.{get_or-set_same, get_or-set_other}
 use lib.Dec.{eqb}
+use mir.Val.{bool_byte}
 use Rattle.bytes_base.specs.Choice.{pick}
 use Rattle.lists.specs.Queue.{shifted}
 use Rattle.time.specs.declared.Millis.{Millis}
@@ -57,9 +58,14 @@ module _ (r : Flat) (u : Uuid) (ms : Millis) (size : ℕ) where
       → size % 256 ≡ n → (step_of r ≡ step) × (len_of r ≡ pick (carries step) n 0)
   waited age step n e g h = rw g (e.0, e.1 ∙ h)
 
-pub one_bit : (b : Bool) → eqb (pick b 1 0) 1 ≡ b
+-- a flag as the library numbers it
+pub one_bit : (b : Bool) → eqb (bool_byte b) 1 ≡ b
 one_bit true = refl
 one_bit false = refl
+
+pub bit-small : (b : Bool) → bool_byte b ≤ 1
+bit-small true = omega arith
+bit-small false = omega arith
 
 -- the words of a step taken apart say that step
 pub words-say : (f : Flat) (step : Step) (len a d : ℕ) → (step_of f ≡ step) × (len_of f ≡ pick (carries step) len 0)

@@ -79,6 +79,7 @@ fn number_of(a: Address) -> u64
     adv_reports::key_of(a)
 }
 
+#[tactic(auto, unfolding(words::specs::Words::target_of))]
 fn aim_of(target: Target) -> Aim
     ensures { target_of result.aim result.uuid ≡ target }
 {
@@ -220,6 +221,7 @@ pub fn flat_of(step: Step, len: u8) -> Flat
 
 // ---- a step put together
 
+#[tactic(auto, unfolding(words::specs::Words::target_of))]
 fn target_of(aim: u8, uuid: Uuid) -> Target
     ensures { result ≡ target_of aim uuid }
 {
@@ -237,14 +239,16 @@ fn age_of(f: Flat) -> Age
     ensures { result ≡ age_of f }
 {
     if f.flag {
-        let low = f.latency as u32;
-        let high = f.timeout as u32;
+        let low = u32::from(f.latency);
+        let high = u32::from(f.timeout);
         let ms = low + AGE_HIGH * high;
-        return Age::Within(Millis(ms));
+        Age::Within(Millis(ms))
+    } else {
+        Age::Any
     }
-    Age::Any
 }
 
+#[tactic(auto, unfolding(words::specs::Words::step_of))]
 pub fn step_of(f: Flat) -> Step
     ensures { result ≡ step_of f }
 {
@@ -294,49 +298,36 @@ pub fn step_of(f: Flat) -> Step
 }
 
 // The length of its value: 0 where its kind carries none.
+#[tactic(auto, unfolding(words::specs::Words::len_of))]
 fn len_of(f: Flat) -> u8
     ensures { result ≡ len_of f }
 {
-    let kind = f.kind;
-    if (kind == state_kinds::WRITE) | (kind == state_kinds::WAIT_NOTIFICATION) {
-        return (f.size % LENGTHS) as u8;
+    match f.kind {
+        state_kinds::WRITE | state_kinds::WAIT_NOTIFICATION => (f.size % LENGTHS) as u8,
+        _ => 0,
     }
-    0
 }
 
 // ---- the words
 
-fn bit(b: bool) -> u64
-    ensures value { result ≡ pick b 1 0 }
-    ensures small { result < 2 }
-{
-    if b {
-        return 1;
-    }
-    0
-}
-
 fn first_word(f: Flat) -> u64
     ensures { (result % 256 ≡ f.kind) × (bit_at 256 result ≡ f.flag) × (result / two16 % two32 ≡ f.ms.0) × (result / two48 ≡ f.size) }
 {
-    let kind = f.kind as u64;
-    let flag = bit(f.flag);
-    let span = f.ms;
-    let ms = span.0 as u64;
-    let size = f.size as u64;
-    let word = kind + FLAG_AT * flag + MS_AT * ms + SIZE_AT * size;
-    word
+    let kind = u64::from(f.kind);
+    let flag = u64::from(f.flag);
+    let ms = u64::from(f.ms.0);
+    let size = u64::from(f.size);
+    kind + FLAG_AT * flag + MS_AT * ms + SIZE_AT * size
 }
 
 fn connect_word(f: Flat) -> u64
     ensures { (result % 256 ≡ f.aim) × (half_at two16 result ≡ f.latency) × (half_at two32 result ≡ f.timeout) × (result / two48 ≡ f.interval) }
 {
-    let aim = f.aim as u64;
-    let latency = f.latency as u64;
-    let timeout = f.timeout as u64;
-    let interval = f.interval as u64;
-    let word = aim + LATENCY_AT * latency + TIMEOUT_AT * timeout + INTERVAL_AT * interval;
-    word
+    let aim = u64::from(f.aim);
+    let latency = u64::from(f.latency);
+    let timeout = u64::from(f.timeout);
+    let interval = u64::from(f.interval);
+    aim + LATENCY_AT * latency + TIMEOUT_AT * timeout + INTERVAL_AT * interval
 }
 
 // The 16 bits at the top.
@@ -382,9 +373,10 @@ pub fn queued_at(tables: &[u64; 1152], i: usize) -> Queued
     ensures { result ≡ get_or (steps_in tables.now) i no_queued }
 {
     let f = flat_at(tables, i);
-    let step = step_of(f);
-    let len = len_of(f);
-    Queued { step, len }
+    Queued {
+        step: step_of(f),
+        len: len_of(f),
+    }
 }
 
 // Four words go into place i.
@@ -392,7 +384,6 @@ fn put_words(tables: &mut [u64; 1152], i: usize, a: u64, low: u64, high: u64, d:
     requires { i < most_steps }
     ensures { all.tables tables.new ≡ all.with_steps (all.tables tables.old) (set (steps_in tables.old) i (queued_of (flat_of a low high d))) }
 {
-    let all = words::size(tables);
     tables[words::STEP + i] = a;
     tables[words::STEP_LOW + i] = low;
     tables[words::STEP_HIGH + i] = high;
