@@ -1,10 +1,9 @@
 -- Laws of what is kept, for the crates above: a push, its values, and what a wait leaves out.
 use Prim.Native.Nat.{ℕ, ◌+◌, ◌-◌, ◌≤◌, ◌<◌}
-use mathlib.Core.Path.{◌≡◌, ◌∙◌}
+use mathlib.Core.Path.{◌≡◌}
 use mathlib.Core.List.{List}
 use native.Mathlib.Omega.{arith}
 use lib.ListN.{length}
-use mathlib.Core.Logic.{◌⊎◌}
 use Rattle.state_places.specs.Sizes.{most_notifications}
 use Rattle.lists.specs.Queue.{pushed}
 use Rattle.lists.proofs.QueueLaws.{take-onto}

@@ -1,7 +1,7 @@
 -- Words that are all zero say the tables of a fresh state.
 use Prim.Native.Nat.{ℕ, zero, suc, ◌+◌}
 use mathlib.Core.Path.{◌≡◌, refl, ap, ◌∙◌}
-use mathlib.Core.List.{List, [], ◌∷◌}
+use mathlib.Core.List.{List, ◌∷◌}
 use lib.ListN.{get_or, replicate}
 use Rattle.gatt_services.specs.Service.{zero-service}
 use Rattle.gatt_characteristics.specs.Characteristic.{zero-characteristic}

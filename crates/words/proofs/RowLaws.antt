@@ -1,19 +1,15 @@
 -- A table reads the same where its words are the same; what a place reads; how long each table is.
-use Prim.Native.Nat.{ℕ, ◌+◌, ◌<◌, ◌≤◌}
-use mathlib.Core.Path.{◌≡◌, refl, ap, ◌∙◌}
-use mathlib.Core.Bool.{Bool, true, false}
+use Prim.Native.Nat.{ℕ, ◌+◌, ◌<◌}
+use mathlib.Core.Path.{◌≡◌, ap}
 use mathlib.Core.List.{List}
 use native.Mathlib.Omega.{arith}
-use lib.ListN.{length, get_or, set, length-set}
-use lib.Dec.{eqb}
-use borrow.Author.Tests.{eqb-true, eqb-false}
-use lib.Seq.{get_or-set_same, get_or-set_other}
+use lib.ListN.{length, get_or}
 use Rattle.gatt_services.specs.Service.{zero-service}
 use Rattle.gatt_characteristics.specs.Characteristic.{zero-characteristic}
 use Rattle.state.specs.Fresh.{no_queued, no_result, no_notification}
 use Rattle.words.specs.Words.{flat_of, queued_of, result_of, service_of, characteristic_of, notification_of, channel_of, pdu_of, data_len_of, response_of, time_of}
 use Rattle.words.specs.Tables.{word, steps_in, results_in, services_in, characteristics_in, notifications_in, who_in, heard_in, keys_in}
-use Rattle.words.specs.Rows.{Same, Lowered}
+use Rattle.words.specs.Rows.{Same}
 use Rattle.words.proofs.TableLaws.{table-length, table_at, table_same}
 
 module _ (w v : List ℕ) where
@@ -123,26 +119,3 @@ module _ (w : List ℕ) where
   pub key-at : (i : ℕ) → i < 128 → get_or (keys_in w) i 0 ≡ word w 928 i
   unfolding keys_in
   key-at i h = table_at 128 i (λ j. word w 928 j) 0 h
-
--- ---- a row moves down by one: no word of it yet, and one more
-
-pub lower-none : (w : List ℕ) (at : ℕ) → Lowered w w at 0
-lower-none w at = record { long = refl; moved = λ p h k. absurd (omega arith); below = λ p h. refl; above = λ p h. refl }
-
-pub lower-on : (w v : List ℕ) (at i : ℕ) → length w ≡ 1152 → at + i + 1 < 1152 → Lowered w v at i → Lowered w (set v (at + i) (get_or v (at + i + 1) 0)) at (i + 1)
-lower-on w v at i l h d =
-    let x : ℕ = get_or v (at + i + 1) 0 in
-    record {
-      long = length-set v (at + i) x ∙ d.long;
-      moved = λ p a b. there p a b (eqb p (at + i)) refl;
-      below = λ p a. get_or-set_other v (at + i) p x 0 (λ e. omega arith) ∙ d.below p a;
-      above = λ p a. get_or-set_other v (at + i) p x 0 (λ e. omega arith) ∙ d.above p (omega arith);
-    }
-  where
-    there : (p : ℕ) → at ≤ p → p < at + (i + 1) → (t : Bool) → eqb p (at + i) ≡ t → get_or (set v (at + i) (get_or v (at + i + 1) 0)) p 0 ≡ get_or w (p + 1) 0
-    there p a b true q =
-        let e : p ≡ at + i = eqb-true p (at + i) q in
-        rw e (get_or-set_same v (at + i) (get_or v (at + i + 1) 0) 0 (omega (arith, d.long)) ∙ d.above (at + i + 1) (omega arith))
-    there p a b false q =
-        let n : p ≡ at + i → ⊥ = eqb-false p (at + i) q in
-        get_or-set_other v (at + i) p (get_or v (at + i + 1) 0) 0 n ∙ d.moved p a (omega (arith, n))

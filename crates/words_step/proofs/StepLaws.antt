@@ -1,6 +1,6 @@
 -- What each return asks, from what the callees ensure.
-use Prim.Native.Nat.{ℕ, ◌+◌, ◌*◌, ◌/◌, ◌%◌, ◌<◌, ◌≤◌}
-use mathlib.Core.Path.{◌≡◌, refl, sym, ap, ◌∙◌}
+use Prim.Native.Nat.{ℕ, ◌+◌, ◌/◌, ◌%◌, ◌<◌, ◌≤◌}
+use mathlib.Core.Path.{◌≡◌, refl, ap, ◌∙◌}
 use mathlib.Core.Bool.{Bool, true, false}
 use mathlib.Core.List.{List}
 use native.Mathlib.Omega.{arith}
@@ -10,53 +10,18 @@ use lib.Dec.{eqb}
 use mir.Val.{bool_byte}
 use Rattle.bytes_base.specs.Choice.{pick}
 use Rattle.lists.specs.Queue.{shifted}
-use Rattle.time.specs.declared.Millis.{Millis}
-use Rattle.uuid_value.specs.declared.Uuid.{Uuid}
-use Rattle.state_kinds.specs.Kinds.{carries, wait_notification}
-use Rattle.notifications.specs.declared.Age.{Age}
-use Rattle.notifications.specs.declared.Age.TheVariants.{Any, Within}
+use Rattle.state_kinds.specs.Kinds.{carries}
 use Rattle.state.specs.declared.Queued.{Queued}
-use Rattle.state.specs.declared.Target.{Target}
 use Rattle.state.specs.declared.Step.{Step}
-use Rattle.state.specs.declared.Step.TheVariants.{Connect, WaitNotification}
 use Rattle.words.specs.declared.Flat.{Flat}
 use Rattle.words.specs.Words.{two16, two32, two48, half_at, bit_at, step_of, len_of, queued_of, flat_of}
 use Rattle.words.specs.Tables.{word, steps_in, tables, with_steps}
 use Rattle.words.specs.Rows.{Same, Lowered}
 use Rattle.words.proofs.TableLaws.{table-set, table-lowered}
 use Rattle.words.proofs.RowLaws.{results_same, services-same, characteristics-same, notifications-same, who-same, heard-same, keys-same}
-use Rattle.words_step.specs.Carried.{carried, plain}
+use Rattle.words_step.specs.Carried.{carried}
 
--- ---- a step taken apart
-
--- a step taken apart into p: that p says it is a computation
-pub apart : (r p : Flat) (s step : Step) (n : ℕ) → r ≡ p → step ≡ s → step_of p ≡ s → len_of p ≡ pick (carries s) n 0
-    → (step_of r ≡ step) × (len_of r ≡ pick (carries step) n 0)
-apart r p s step n e g h k = (ap step_of e ∙ h ∙ sym g, ap len_of e ∙ k ∙ ap (λ (t : Step). pick (carries t) n 0) (sym g))
-
-pub aimed : (t u : Target) (interval latency timeout : ℕ) (ms : Millis) (step : Step) (n : ℕ) → t ≡ u → step ≡ Connect u interval latency timeout ms
-    → (Connect t interval latency timeout ms ≡ step) × (0 ≡ pick (carries step) n 0)
-aimed t u interval latency timeout ms step n e g = rw (e, g) (refl, refl)
-
--- the halves of an age are the age
-pub halves : (u : Uuid) (ms age : Millis) → WaitNotification u ms (Within (record { 0 = age.0 % 65536 + 65536 * (age.0 / 65536) })) ≡ WaitNotification u ms (Within age)
-halves u ms age =
-    let e : age.0 % 65536 + 65536 * (age.0 / 65536) ≡ age.0 = omega arith in
-    ap (λ (k : ℕ). WaitNotification u ms (Within (record { 0 = k }))) e
-
--- a wait taken apart into r
-module _ (r : Flat) (u : Uuid) (ms : Millis) (size : ℕ) where
-  pub ageless : (age : Age) → r ≡ plain wait_notification false ms size u → age ≡ Any → (step_of r ≡ WaitNotification u ms age) × (len_of r ≡ size % 256)
-  unfolding step_of len_of
-  ageless age e g = rw (e, g) (refl, refl)
-
-  pub in-age : (most : Millis) (age : Age) → (step_of r ≡ WaitNotification u ms (Within most)) × (len_of r ≡ size % 256) → age ≡ Within most
-      → (step_of r ≡ WaitNotification u ms age) × (len_of r ≡ size % 256)
-  in-age most age e g = rw g e
-
-  pub waited : (age : Age) (step : Step) (n : ℕ) → (step_of r ≡ WaitNotification u ms age) × (len_of r ≡ size % 256) → step ≡ WaitNotification u ms age
-      → size % 256 ≡ n → (step_of r ≡ step) × (len_of r ≡ pick (carries step) n 0)
-  waited age step n e g h = rw g (e.0, e.1 ∙ h)
+-- ---- a step in four words
 
 -- a flag as the library numbers it
 pub one_bit : (b : Bool) → eqb (bool_byte b) 1 ≡ b

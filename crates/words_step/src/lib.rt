@@ -14,7 +14,7 @@ ghost use Rattle.state_rules.specs.Fit.{steps_fit};
 ghost use Rattle.words.specs.Words.{two16, two32, two48, half_at, bit_at, target_of, age_of, step_of, len_of, queued_of, flat_of};
 ghost use Rattle.words.specs.Tables.{word, steps_in};
 ghost use Rattle.words.specs.Tables as all;
-ghost use Rattle.words_step.specs.Carried.{carried, plain};
+ghost use Rattle.words_step.specs.Carried.{carried};
 ghost use Rattle.words_step.specs.Fits.{word_fits};
 
 use notifications::Age;
@@ -102,120 +102,91 @@ fn aim_of(target: Target) -> Aim
     }
 }
 
-// Every kind but a Connect and a wait with an age.
-fn plain(kind: u8, flag: bool, ms: Millis, size: u16, uuid: Uuid) -> Flat
-    ensures { result ≡ plain kind flag ms size uuid }
+// What the step's kind does not have is 0. A wait with an age has its halves where a Connect has its latency and its timeout.
+#[tactic(auto, unfolding(words::specs::Words::step_of, words::specs::Words::len_of))]
+pub fn flat_of(step: Step, len: u8) -> Flat
+    ensures { (step_of result ≡ step) × (len_of result ≡ pick (carries step) len 0) }
 {
-    Flat {
-        kind,
-        flag,
-        ms,
-        size,
-        uuid,
+    let plain = Flat {
+        kind: state_kinds::kind_of(step),
+        flag: false,
+        ms: Millis(0),
+        size: 0,
+        uuid: Uuid { low: 0, high: 0 },
         aim: 0,
         latency: 0,
         timeout: 0,
         interval: 0,
-    }
-}
-
-// A wait with an age, whose halves stand where a Connect has its latency and its timeout.
-fn aged(ms: Millis, size: u16, uuid: Uuid, age: Millis) -> Flat
-    ensures { (step_of result ≡ WaitNotification uuid ms (Within age)) × (len_of result ≡ size % 256) }
-{
-    let all = age.0;
-    let latency = (all % AGE_HIGH) as u16;
-    let timeout = (all / AGE_HIGH) as u16;
-    Flat {
-        kind: state_kinds::WAIT_NOTIFICATION,
-        flag: true,
-        ms,
-        size,
-        uuid,
-        aim: 0,
-        latency,
-        timeout,
-        interval: 0,
-    }
-}
-
-fn wait_of(ms: Millis, size: u16, uuid: Uuid, age: Age) -> Flat
-    ensures { (step_of result ≡ WaitNotification uuid ms age) × (len_of result ≡ size % 256) }
-{
-    match age {
-        Age::Any => plain(state_kinds::WAIT_NOTIFICATION, false, ms, size, uuid),
-        Age::Within(most) => aged(ms, size, uuid, most),
-    }
-}
-
-pub fn flat_of(step: Step, len: u8) -> Flat
-    ensures { (step_of result ≡ step) × (len_of result ≡ pick (carries step) len 0) }
-{
-    let none = Uuid { low: 0, high: 0 };
-    let never = Millis(0);
+    };
     let size = len as u16;
     match step {
-        Step::Scan { ms } => plain(state_kinds::SCAN, false, ms, 0, none),
+        Step::Scan { ms } => Flat { ms, ..plain },
         Step::Connect {
             target,
             interval,
             latency,
             timeout,
-            within_ms,
+            within_ms: ms,
         } => {
             let to = aim_of(target);
-            let uuid = to.uuid;
             Flat {
-                kind: state_kinds::CONNECT,
-                flag: false,
-                ms: within_ms,
-                size: 0,
-                uuid,
                 aim: to.aim,
+                uuid: to.uuid,
+                ms,
+                interval,
                 latency,
                 timeout,
-                interval,
+                ..plain
             }
         }
-        Step::ExchangeMtu { mtu } => plain(state_kinds::EXCHANGE_MTU, false, never, mtu, none),
-        Step::DiscoverServices => plain(state_kinds::DISCOVER_SERVICES, false, never, 0, none),
-        Step::DiscoverCharacteristics { service } => plain(
-            state_kinds::DISCOVER_CHARACTERISTICS,
-            false,
-            never,
-            0,
-            service,
-        ),
+        Step::ExchangeMtu { mtu: size } => Flat { size, ..plain },
+        Step::DiscoverServices => plain,
+        Step::DiscoverCharacteristics { service: uuid } => Flat { uuid, ..plain },
         Step::Subscribe {
-            characteristic,
-            indicate,
-        } => plain(state_kinds::SUBSCRIBE, indicate, never, 0, characteristic),
+            characteristic: uuid,
+            indicate: flag,
+        } => Flat {
+            uuid,
+            flag,
+            ..plain
+        },
         Step::Write {
-            characteristic,
-            with_response,
-        } => plain(
-            state_kinds::WRITE,
-            with_response,
-            never,
+            characteristic: uuid,
+            with_response: flag,
+        } => Flat {
+            uuid,
+            flag,
             size,
-            characteristic,
-        ),
-        Step::Read { characteristic } => plain(state_kinds::READ, false, never, 0, characteristic),
+            ..plain
+        },
+        Step::Read {
+            characteristic: uuid,
+        } => Flat { uuid, ..plain },
         Step::WaitNotification {
-            characteristic,
-            within_ms,
+            characteristic: uuid,
+            within_ms: ms,
             age,
-        } => wait_of(within_ms, size, characteristic, age),
-        Step::Wait { ms } => plain(state_kinds::WAIT, false, ms, 0, none),
-        Step::Disconnect => plain(state_kinds::DISCONNECT, false, never, 0, none),
-        Step::Capture { enabled } => plain(state_kinds::CAPTURE, enabled, never, 0, none),
-        Step::CaptureSecrets { secrets } => plain(
-            state_kinds::CAPTURE_SECRETS,
-            secrets,
-            never,
-            0,
-            none,
-        ),
+        } => match age {
+            Age::Any => Flat {
+                uuid,
+                ms,
+                size,
+                ..plain
+            },
+            Age::Within(most) => Flat {
+                uuid,
+                ms,
+                size,
+                flag: true,
+                latency: (most.0 % AGE_HIGH) as u16,
+                timeout: (most.0 / AGE_HIGH) as u16,
+                ..plain
+            },
+        },
+        Step::Wait { ms } => Flat { ms, ..plain },
+        Step::Disconnect => plain,
+        Step::Capture { enabled: flag } => Flat { flag, ..plain },
+        Step::CaptureSecrets { secrets: flag } => Flat { flag, ..plain },
     }
 }
 
