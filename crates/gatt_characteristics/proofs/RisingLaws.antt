@@ -7,14 +7,11 @@ use native.Mathlib.Omega.{arith}
 use lib.ListN.{length, take, drop, get_or, set}
 use lib.Dec.{ltb, leb}
 use borrow.Author.Tests.{lt-ltb, le-ltb, eq-eqb, ne_eqb, ltb-true, ltb-false, leb-true, le-leb}
+use Rattle.std.specs.List.Sorted.{IsNonDecreasingBy, IsPartitionedBy, IsPartitionPoint}
+use Rattle.std.proofs.lemmas.List.Sorted.{IsPartitionedBy-ltb}
 use Rattle.bytes_base.specs.Choice.{pick}
-use Rattle.gatt_characteristics.specs.Characteristic.{Up, Rising, up_from, without, put, enter}
+use Rattle.gatt_characteristics.specs.Characteristic.{Up, Rising, place, up_from, without, put, enter}
 use Rattle.gatt_characteristics.specs.declared.Characteristic.{Characteristic}
-
--- how many of a rising list are declared below n
-unfoldable pub place : ℕ → List Characteristic → ℕ
-place n [] = 0
-place n (x ∷ xs) = pick (ltb x.declaration n) (suc (place n xs)) 0
 
 without-up : (n m : ℕ) (l : List Characteristic) → n < m → Up m l → without n l ≡ l
 unfolding without
@@ -110,7 +107,7 @@ enter-new c d m (x ∷ xs) u = go (order x.declaration c.declaration) (enter-new
     go (same p) ih = rw (le-ltb x.declaration c.declaration (omega arith)) (λ h. absurd (h (omega arith) p))
     go (more-than p) ih = rw (le-ltb x.declaration c.declaration (omega arith)) (λ h. enter-before c x xs p u.1)
 
--- ---- the place, by the last of the first ones
+-- ---- the place, as `partition_point` finds it
 
 -- each is declared at m or after it
 up_at : (d : Characteristic) (m : ℕ) (l : List Characteristic) (b : ℕ) → Up m l → b < length l → m ≤ (get_or l b d).declaration
@@ -118,34 +115,26 @@ up_at d m [] b u h = absurd (omega arith)
 up_at d m (x ∷ xs) zero u h = u.0
 up_at d m (x ∷ xs) (suc b) u h = let r = up_at d (suc x.declaration) xs b u.1 (omega arith) in omega (arith, u.0)
 
--- one that is not below n does not count
-pub place-above : (n : ℕ) (d : Characteristic) (l : List Characteristic) (b : ℕ) → b < length l → n ≤ (get_or l b d).declaration
-    → place n (take (suc b) l) ≡ place n (take b l)
-unfolding place
-place-above n d [] b h g = absurd (omega arith)
-place-above n d (x ∷ xs) zero h g = rw (le-ltb x.declaration n g)
-place-above n d (x ∷ xs) (suc b) h g =
-    ap (λ (k : ℕ). pick (ltb x.declaration n) (suc k) 0) (place-above n d xs b (omega arith) g)
+up_rises : (m : ℕ) (l : List Characteristic) → Up m l → IsNonDecreasingBy (λ (x : Characteristic). x.declaration) l
+up_rises m [] u i j d h g = absurd (omega arith)
+up_rises m (x ∷ xs) u zero zero d h g = omega arith
+up_rises m (x ∷ xs) u zero (suc j) d h g = let r = up_at d (suc x.declaration) xs j u.1 (omega arith) in omega arith
+up_rises m (x ∷ xs) u (suc i) zero d h g = absurd (omega arith)
+up_rises m (x ∷ xs) u (suc i) (suc j) d h g = up_rises (suc x.declaration) xs u.1 i j d (omega arith) (omega arith)
 
--- if one is below n, so are those before it
-pub place-below : (n : ℕ) (d : Characteristic) (m : ℕ) (l : List Characteristic) (b : ℕ) → Up m l → b < length l → (get_or l b d).declaration < n
-    → place n (take (suc b) l) ≡ suc b
-unfolding place
-place-below n d m [] b u h g = absurd (omega arith)
-place-below n d m (x ∷ xs) zero u h g = rw (lt-ltb x.declaration n g)
-place-below n d m (x ∷ xs) (suc b) u h g =
-    let r = up_at d (suc x.declaration) xs b u.1 (omega arith) in
-    rw (lt-ltb x.declaration n (omega arith), place-below n d (suc x.declaration) xs b u.1 (omega arith) g)
+-- those below n come first
+pub parted : (n : ℕ) (l : List Characteristic) → Rising l → IsPartitionedBy (λ (x : Characteristic). ltb x.declaration n) l
+parted n l u = IsPartitionedBy-ltb (λ (x : Characteristic). x.declaration) l n (up_rises 0 l u)
 
--- the place of one that is there
-pub place_same : (n : ℕ) (d : Characteristic) (m : ℕ) (l : List Characteristic) (b : ℕ) → Up m l → b < length l → (get_or l b d).declaration ≡ n
-    → place n (take (suc b) l) ≡ b
+-- and the place is where they end
+pub place-is : (n : ℕ) (l : List Characteristic) (i : ℕ) → i ≤ length l
+    → IsPartitionPoint (λ (x : Characteristic). ltb x.declaration n ≡ true) (λ (x : Characteristic). ltb x.declaration n ≡ false) l i → i ≡ place n l
 unfolding place
-place_same n d m [] b u h g = absurd (omega arith)
-place_same n d m (x ∷ xs) zero u h g = rw (le-ltb x.declaration n (omega arith))
-place_same n d m (x ∷ xs) (suc b) u h g =
-    let r = up_at d (suc x.declaration) xs b u.1 (omega arith) in
-    rw (lt-ltb x.declaration n (omega arith), place_same n d (suc x.declaration) xs b u.1 (omega arith) g)
+place-is n [] i h s = omega arith
+place-is n (x ∷ xs) zero h s = rw (s.1 0 x (omega arith) (omega arith)) refl
+place-is n (x ∷ xs) (suc i) h s =
+    rw (s.0 0 x (omega arith) (omega arith))
+    (ap suc (place-is n xs i (omega arith) ((λ k d a b. s.0 (suc k) d (omega arith) (omega arith)), (λ k d a b. s.1 (suc k) d (omega arith) (omega arith)))))
 
 -- ---- the test for a rising list
 

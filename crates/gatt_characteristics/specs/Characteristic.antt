@@ -64,6 +64,11 @@ put c (x ∷ xs) = pick (ltb x.declaration c.declaration) (x ∷ put c xs) (c �
 unfoldable pub enter : Characteristic → List Characteristic → List Characteristic
 enter c l = put c (without c.declaration l)
 
+-- how many of a rising list are declared below n
+unfoldable pub place : ℕ → List Characteristic → ℕ
+place n [] = 0
+place n (x ∷ xs) = pick (ltb x.declaration n) (suc (place n xs)) 0
+
 -- ---- an entry
 
 abbrev pub declaration_of : List ℕ → ℕ

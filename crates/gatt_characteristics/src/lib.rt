@@ -4,7 +4,7 @@
 ghost use Rattle.std.specs.Prelude.{◌≡◌, ◌+◌, ◌≤◌, length};
 ghost use Rattle.state_places.specs.Sizes.{most_characteristics};
 ghost use Rattle.lists.specs.Cut.{entries, part};
-ghost use Rattle.gatt_characteristics.specs.Characteristic.{known, Rising, told, characteristics_taken};
+ghost use Rattle.gatt_characteristics.specs.Characteristic.{known, Rising, place, told, characteristics_taken};
 
 use state_places::MAX_CHARACTERISTICS;
 use uuid_value::Uuid;
@@ -41,28 +41,35 @@ const VALUE_AT: usize = 3;
 
 const UUID_AT: usize = 5;
 
-// The characteristic that the entry from a to b tells of.
-fn told_at(s: &[u8], a: usize, b: usize) -> Option<Characteristic>
-    requires { (a + 5 ≤ b) × (b ≤ length s.now) }
-    ensures { result ≡ told (part a b s.now) }
+// The characteristic that an entry tells of, if its UUID has 2 or 16 bytes.
+#[tactic(auto, unfolding(crate::specs::Characteristic::told))]
+fn told(entry: &[u8]) -> Option<Characteristic>
+    requires { 5 ≤ length entry.now }
+    ensures { result ≡ told entry.now }
 {
-    let declaration = bytes_numbers::le16(s, a);
-    let properties = s[a + PROPERTIES_AT];
-    let value_handle = bytes_numbers::le16(s, a + VALUE_AT);
-    match Uuid::from_att(&s[a + UUID_AT..b]) {
-        Some(uuid) => Some(Characteristic {
-            declaration,
-            properties,
-            value_handle,
-            uuid,
-            cccd: None,
-        }),
-        None => None,
-    }
+    let declaration = bytes_numbers::le16(entry, 0);
+    let properties = entry[PROPERTIES_AT];
+    let value_handle = bytes_numbers::le16(entry, VALUE_AT);
+    let uuid = Uuid::from_att(&entry[UUID_AT..])?;
+    Some(Characteristic {
+        declaration,
+        properties,
+        value_handle,
+        uuid,
+        cccd: None,
+    })
+}
+
+// How many of the known characteristics, which rise by declaration, are declared below declaration.
+fn place_of(known: &[Characteristic], declaration: u16) -> usize
+    requires { Rising known.now }
+    ensures place { result ≡ place declaration known.now }
+    ensures bound { result ≤ length known.now }
+{
+    known.partition_point(|x| x.declaration < declaration)
 }
 
 // The table after the entries of len bytes that stand in s from index from to index end. Where there is none, the last handle is none.
-// The loops that find a place and make it free stand in the loop, since a call for each entry would copy the table for each.
 pub fn take_characteristics(
     t: Characteristics,
     s: &[u8],
@@ -77,47 +84,25 @@ pub fn take_characteristics(
     let mut kept = t.kept;
     let mut count = t.count;
     let mut last = none;
-    let mut at = from;
-    'entries: while len <= end - at {
-        let next = at + len;
-        let told = told_at(s, at, next);
-        let before = last;
-        last = bytes_numbers::le16(s, at);
-        at = next;
-        if let Some(c) = told {
-            // An answer tells of them in rising order, so the search begins at the end.
-            let mut p = count;
-            while 0 < p {
-                let b = p - 1;
-                let x = kept[b];
-                if x.declaration == c.declaration {
-                    kept[b] = c;
-                    continue 'entries;
+    for entry in s[from..end].chunks_exact(len) {
+        if let Some(c) = told(entry) {
+            let p = place_of(&kept[..count], c.declaration);
+            if p < count && kept[p].declaration == c.declaration {
+                kept[p] = c;
+            } else {
+                if count == MAX_CHARACTERISTICS {
+                    return Found {
+                        table: Characteristics { kept, count },
+                        last,
+                        full: true,
+                    };
                 }
-                if x.declaration < c.declaration {
-                    break;
-                }
-                p = b;
+                kept.copy_within(p..count, p + 1);
+                kept[p] = c;
+                count += 1;
             }
-            if count == MAX_CHARACTERISTICS {
-                return Found {
-                    table: Characteristics { kept, count },
-                    last: before,
-                    full: true,
-                };
-            }
-            // Those from p on move up by one.
-            let mut carry = c;
-            let mut i = p;
-            while i < count {
-                let moved = kept[i];
-                kept[i] = carry;
-                carry = moved;
-                i += 1;
-            }
-            kept[count] = carry;
-            count += 1;
         }
+        last = bytes_numbers::le16(entry, 0);
     }
     Found {
         table: Characteristics { kept, count },

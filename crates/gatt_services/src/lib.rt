@@ -4,7 +4,7 @@
 ghost use Rattle.std.specs.Prelude.{◌≡◌, ◌+◌, ◌≤◌, length};
 ghost use Rattle.state_places.specs.Sizes.{most_services};
 ghost use Rattle.lists.specs.Cut.{entries, part};
-ghost use Rattle.gatt_services.specs.Service.{told, services_taken};
+ghost use Rattle.gatt_services.specs.Service.{told, listed, services_taken};
 
 use state_places::MAX_SERVICES;
 use uuid_value::Uuid;
@@ -36,21 +36,26 @@ const END_AT: usize = 2;
 
 const UUID_AT: usize = 4;
 
-// The service that the entry from a to b tells of.
-fn told_at(s: &[u8], a: usize, b: usize) -> Option<Service>
-    requires { (a + 4 ≤ b) × (b ≤ length s.now) }
-    ensures { result ≡ told (part a b s.now) }
+// The service that an entry tells of, if its UUID has 2 or 16 bytes.
+#[tactic(auto, unfolding(crate::specs::Service::told))]
+fn told(entry: &[u8]) -> Option<Service>
+    requires { 4 ≤ length entry.now }
+    ensures { result ≡ told entry.now }
 {
-    let start = bytes_numbers::le16(s, a);
-    let end = bytes_numbers::le16(s, a + END_AT);
-    match Uuid::from_att(&s[a + UUID_AT..b]) {
-        Some(uuid) => Some(Service { start, end, uuid }),
-        None => None,
-    }
+    let start = bytes_numbers::le16(entry, 0);
+    let end = bytes_numbers::le16(entry, END_AT);
+    let uuid = Uuid::from_att(&entry[UUID_AT..])?;
+    Some(Service { start, end, uuid })
 }
 
-// The table after the entries of len bytes that stand in s from index from to index end. An entry with a known start is skipped. The
-// search stands in the loop, since a call for each entry would copy the table for each.
+// Whether one of the known services starts at start.
+fn is_listed(known: &[Service], start: u16) -> bool
+    ensures { result ≡ listed start known.now }
+{
+    known.iter().any(|x| x.start == start)
+}
+
+// The table after the entries of len bytes that stand in s from index from to index end. An entry with a known start is skipped.
 pub fn take_services(t: Services, s: &[u8], from: usize, end: usize, len: usize) -> Found
     requires { (t.count ≤ most_services) × (4 ≤ len) × (from ≤ end) × (end ≤ length s.now) }
     ensures { result ≡ services_taken t (entries len (part from end s.now)) }
@@ -58,32 +63,21 @@ pub fn take_services(t: Services, s: &[u8], from: usize, end: usize, len: usize)
     let mut kept = t.kept;
     let mut count = t.count;
     let mut last = att_pdu::LAST_HANDLE;
-    let mut at = from;
-    'entries: while len <= end - at {
-        let next = at + len;
-        let told = told_at(s, at, next);
-        let before = last;
-        last = bytes_numbers::le16(s, at + END_AT);
-        at = next;
-        if let Some(new) = told {
-            let mut i = 0;
-            while i < count {
-                let x = kept[i];
-                if x.start == new.start {
-                    continue 'entries;
+    for entry in s[from..end].chunks_exact(len) {
+        if let Some(new) = told(entry) {
+            if !is_listed(&kept[..count], new.start) {
+                if count == MAX_SERVICES {
+                    return Found {
+                        table: Services { kept, count },
+                        last,
+                        full: true,
+                    };
                 }
-                i += 1;
+                kept[count] = new;
+                count += 1;
             }
-            if count == MAX_SERVICES {
-                return Found {
-                    table: Services { kept, count },
-                    last: before,
-                    full: true,
-                };
-            }
-            kept[count] = new;
-            count += 1;
         }
+        last = bytes_numbers::le16(entry, END_AT);
     }
     Found {
         table: Services { kept, count },

@@ -1,24 +1,19 @@
 -- Laws of a part of the bytes, and of the entries in it.
 use Prim.Native.Nat.{ℕ, zero, suc, ◌+◌, ◌-◌, ◌/◌, ◌≤◌, ◌<◌}
 use mathlib.Core.Path.{◌≡◌, sym, ap, ap₂, ◌∙◌}
-use mathlib.Core.List.{List, [], ◌∷◌}
+use mathlib.Core.List.{List, [], ◌∷◌, ◌++◌}
 use native.Mathlib.Numerals.{add-one}
 use native.Mathlib.Nat.{div-eq_of_lt, div-eq-sub-div}
 use native.Mathlib.Omega.{arith}
 use lib.ListN.{length, take, drop, get_or, length-drop}
-use lib.Seq.{take-take, drop-drop, take-nil, length-take-le, get_or-take, get_or-drop}
+use lib.ListN.{length-append}
+use lib.Seq.{take-take, drop-drop, length-take-le, get_or-take, get_or-drop, take-append_seam, drop-append_seam}
+use Rattle.std.proofs.lemmas.List.{drop-take}
 use Rattle.bytes_base.specs.Bytes.{le, le_at}
 use Rattle.bytes_base.proofs.ByteLaws.{le_at-in}
 use Rattle.lists.specs.Cut.{chunks, entries, part}
 
 -- ---- a part
-
-drop-take : {A : Type 0} (k m : ℕ) (l : List A) → drop k (take (k + m) l) ≡ take m (drop k l)
-drop-take zero m l = let e : 0 + m ≡ m = omega arith in ap (λ (n : ℕ). take n l) e
-drop-take (suc k) m [] = ap (λ (x : List _). drop (suc k) x) (take-nil (suc k + m)) ∙ sym (take-nil m)
-drop-take (suc k) m (x ∷ xs) =
-    let e : suc k + m ≡ suc (k + m) = omega arith in
-    ap (λ (n : ℕ). drop (suc k) (take n (x ∷ xs))) e ∙ drop-take k m xs
 
 length_part : (a b : ℕ) (s : List ℕ) → a ≤ b → b ≤ length s → length (part a b s) ≡ b - a
 length_part a b s h g = length-take-le (b - a) (drop a s) (rw length-drop (omega arith))
@@ -69,3 +64,26 @@ unfolding entries chunks
 entry-end k a b s h q g =
     ap (λ (n : ℕ). chunks (n / k) k (part a b s)) (length_part a b s h g)
     ∙ ap (λ (n : ℕ). chunks n k (part a b s)) (div-eq_of_lt {n = b - a} {m = k} (omega arith))
+
+-- the same of bytes that an entry begins, as `chunks_exact` gives them
+pub entries-first : (k : ℕ) (e s : List ℕ) → 0 < k → length e ≡ k → entries k (e ++ s) ≡ e ∷ entries k s
+unfolding entries chunks
+entries-first k e s p l =
+    let n : length (e ++ s) - k ≡ length s = rw (length-append e s) (omega arith) in
+    let h : k ≤ length (e ++ s) = rw (length-append e s) (omega arith) in
+    let d : length (e ++ s) / k ≡ suc (length s / k) =
+    div-eq-sub-div {m = k} {n = length (e ++ s)} p h ∙ ap (λ (m : ℕ). m / k + 1) n ∙ add-one (length s / k) in
+    ap (λ (m : ℕ). chunks m k (e ++ s)) d
+    ∙ ap₂ (λ (x : List ℕ) (y : List (List ℕ)). x ∷ y)
+    (ap (λ (m : ℕ). take m (e ++ s)) (sym l) ∙ take-append_seam e s)
+    (ap (chunks (length s / k) k) (ap (λ (m : ℕ). drop m (e ++ s)) (sym l) ∙ drop-append_seam e s))
+
+pub entries-none : (k : ℕ) (s : List ℕ) → length s < k → entries k s ≡ []
+unfolding entries chunks
+entries-none k s h = ap (λ (n : ℕ). chunks n k s) (div-eq_of_lt {n = length s} {m = k} h)
+
+-- a part, cut as the code cuts it
+pub part-cut : (a b : ℕ) (s : List ℕ) → a ≤ b → drop a (take b s) ≡ part a b s
+part-cut a b s h =
+    let e : b ≡ a + (b - a) = omega arith in
+    ap (λ (k : ℕ). drop a (take k s)) e ∙ drop-take a (b - a) s

@@ -1,6 +1,6 @@
 -- Laws of a list at the front of an array, and of a walk along it.
 use Prim.Native.Nat.{ℕ, suc, ◌+◌, ◌-◌, ◌≤◌, ◌<◌}
-use mathlib.Core.Path.{◌≡◌, sym, ap, ◌∙◌}
+use mathlib.Core.Path.{◌≡◌, refl, sym, ap, ◌∙◌}
 use mathlib.Core.Bool.{Bool, true, false}
 use mathlib.Core.List.{List, [], ◌∷◌, ◌++◌, append_assoc}
 use native.Mathlib.Numerals.{add-one}
@@ -9,6 +9,10 @@ use lib.ListN.{length, take, drop, get_or, set, length-append, length-set, take-
 use lib.Seq.{length-take-le, drop-append-add, drop-drop, drop-cons, get_or-take, set_split, set-append_left}
 use Rattle.lists.specs.Queue.{onto}
 pub use Rattle.lists.proofs.QueueLaws.{take-onto, length-onto}
+use Rattle.bytes_base.specs.Choice.{pick}
+use Rattle.std.specs.Prelude.{◌||◌, MatchBool, Any, All}
+use Rattle.std.specs.List.{list_any}
+use Rattle.std.proofs.lemmas.List.Folds.{list_any-from_Any, list_any_none}
 use Rattle.lists.specs.First.{first}
 
 -- ---- a list written onto an array
@@ -69,3 +73,20 @@ module _ {A R : Type 0} (hit : A → Bool) (is : A → R) (other : R) (d : A) (a
   pub first-end : c ≤ i → other ≡ first hit is other (take c a)
   unfolding first
   first-end h = sym (e ∙ rw (past d a c i g h))
+
+-- ---- whether any passes
+
+first-any : {A : Type 0} (hit : A → Bool) (l : List A) → list_any hit l ≡ first hit (λ (x : A). true) false l
+unfolding first
+first-any hit [] = refl
+first-any hit (x ∷ xs) = go (hit x) (first-any hit xs)
+  where
+    go : (b : Bool) → list_any hit xs ≡ first hit (λ (x : _). true) false xs → (b || list_any hit xs) ≡ pick b true (first hit (λ (x : _). true) false xs)
+    go true e = refl
+    go false e = e
+
+-- as `any` of an iterator tells it
+pub any-first : {A : Type 0} (hit : A → Bool) (l : List A) (b : Bool)
+    → MatchBool b (Any (λ x. hit x ≡ true) l) (All (λ x. hit x ≡ false) l) → b ≡ first hit (λ (x : A). true) false l
+any-first hit l true h = sym (list_any-from_Any hit l h) ∙ first-any hit l
+any-first hit l false h = sym (list_any_none hit l h) ∙ first-any hit l

@@ -1,65 +1,63 @@
 -- Laws of entries taken in order: the loop that takes them, and what a table keeps.
-use Prim.Native.Nat.{ℕ, ◌+◌, ◌≤◌, ◌<◌}
+use Prim.Native.Nat.{ℕ, ◌≤◌, ◌<◌}
 use mathlib.Core.Path.{◌≡◌, refl, sym, ap, ◌∙◌}
 use mathlib.Core.Bool.{Bool, true, false}
-use mathlib.Core.List.{List, [], ◌∷◌}
+use mathlib.Core.List.{List, [], ◌∷◌, ◌++◌}
 use native.Mathlib.Omega.{arith}
 use lib.ListN.{length, take}
 use lib.Dec.{leb}
 use borrow.Author.Tests.{leb-true}
 use Rattle.bytes_base.specs.Choice.{pick}
-use Rattle.lists.specs.Cut.{entries, part}
+use Rattle.lists.specs.Cut.{entries}
 use Rattle.lists.specs.Queue.{onto}
 use Rattle.lists.specs.Taken.{Have, have, taken}
-use Rattle.lists.proofs.CutLaws.{entry_here, entry-end}
+use Rattle.lists.proofs.CutLaws.{entries-first, entries-none}
 use Rattle.lists.proofs.TableLaws.{length-onto, take-onto, onto-self, onto-onto}
 
 -- ---- the loop over the entries
 
--- entries that are left, from the array a with n in it, give what all give from the array a₀ with n₀ in it
-pub record Going {A : Type 0} (more : List A → List ℕ → List A) (handle : List ℕ → ℕ) (most : ℕ) (s : List ℕ) (from end len : ℕ)
-    (a₀ : List A) (n₀ last₀ : ℕ) (a : List A) (n last at : ℕ) : Type 0 where
-  pub inside : at ≤ end
+-- the entries in the bytes s, which are left, give `whole` from the array a with n in it; it is the array a₀ with other entries in front
+pub record Going {A : Type 0} (more : List A → List ℕ → List A) (handle : List ℕ → ℕ) (most len : ℕ) (whole : Have A)
+    (a₀ a : List A) (n last : ℕ) (s : List ℕ) : Type 0 where
   pub count : n ≤ most
   pub size : length a ≡ most
   pub upon : a ≡ onto a₀ (take n a)
-  pub same :
-      taken more handle most (take n a) last (entries len (part at end s))
-      ≡ taken more handle most (take n₀ a₀) last₀ (entries len (part from end s))
+  pub same : taken more handle most (take n a) last (entries len s) ≡ whole
 
-module _ {A : Type 0} (more : List A → List ℕ → List A) (handle : List ℕ → ℕ) (most : ℕ) (s : List ℕ) (from end len : ℕ)
-    (a₀ : List A) (n₀ last₀ : ℕ) where
-  pub going : n₀ ≤ most → length a₀ ≡ most → from ≤ end → Going more handle most s from end len a₀ n₀ last₀ a₀ n₀ last₀ from
-  going h g k = record { inside = k; count = h; size = g; upon = sym (onto-self a₀ n₀ (omega arith)); same = refl }
+module _ {A : Type 0} (more : List A → List ℕ → List A) (handle : List ℕ → ℕ) (most len : ℕ) (a₀ : List A) where
+  pub going : (n last : ℕ) (s : List ℕ) → n ≤ most → length a₀ ≡ most
+      → Going more handle most len (taken more handle most (take n a₀) last (entries len s)) a₀ a₀ n last s
+  going n last s h g = record { count = h; size = g; upon = sym (onto-self a₀ n (omega arith)); same = refl }
 
-  module _ (a : List A) (n last at : ℕ) (i : Going more handle most s from end len a₀ n₀ last₀ a n last at) (big : end ≤ length s) where
+  module _ (whole : Have A) (a : List A) (n last : ℕ) (s : List ℕ) (i : Going more handle most len whole a₀ a n last s) where
     -- no entry is left
-    pub done : end < at + len → taken more handle most (take n₀ a₀) last₀ (entries len (part from end s)) ≡ have (take n a) last false
+    pub done : length s < len → whole ≡ have (take n a) last false
     unfolding taken
-    done h = rw (← i.same, entry-end len at end s i.inside h big)
+    done h = rw (← i.same, entries-none len s h) refl
 
-    -- the entry has no place
-    pub no_place : 0 < len → at + len ≤ end → leb (length (more (take n a) (part at (at + len) s))) most ≡ false
-        → taken more handle most (take n₀ a₀) last₀ (entries len (part from end s)) ≡ have (take n a) last true
-    unfolding taken
-    no_place p h f = rw (← i.same, entry_here len at end s p h big, f)
+    -- the entry e is the next
+    module _ (e r : List ℕ) (es : s ≡ e ++ r) (p : 0 < len) (l : length e ≡ len) where
+      cut : entries len s ≡ e ∷ entries len r
+      cut = ap (entries len) es ∙ entries-first len e r p l
 
-    -- the entry is read
-    pub goes : 0 < len → at + len ≤ end
-        → (m : List A) → m ≡ more (take n a) (part at (at + len) s) → length (take n a) ≤ length m → leb (length m) most ≡ true
-        → (y : ℕ) → y ≡ handle (part at (at + len) s)
-        → Going more handle most s from end len a₀ n₀ last₀ (onto a m) (length m) y (at + len)
-    unfolding taken
-    goes p h m em ln ok y ey =
-        let le : length m ≤ most = leb-true (length m) most ok in
-        let km : take (length m) (onto a m) ≡ m = take-onto a m in
-        record {
-          inside = h;
-          count = le;
-          size = length-onto a m (omega (arith, i.size)) ∙ i.size;
-          upon = rw km (ap (λ (x : List A). onto x m) i.upon ∙ onto-onto a₀ (take n a) m ln);
-          same = rw (km, ← i.same, entry_here len at end s p h big, ← em, ok, ey);
-        }
+      -- it has no place
+      pub no_place : leb (length (more (take n a) e)) most ≡ false → whole ≡ have (take n a) last true
+      unfolding taken
+      no_place f = rw (← i.same, cut, f) refl
+
+      -- it is read
+      pub goes : (m : List A) → m ≡ more (take n a) e → length (take n a) ≤ length m → leb (length m) most ≡ true
+          → (y : ℕ) → y ≡ handle e → Going more handle most len whole a₀ (onto a m) (length m) y r
+      unfolding taken
+      goes m em ln ok y ey =
+          let km : take (length m) (onto a m) ≡ m = take-onto a m in
+          let le : length m ≤ most = leb-true (length m) most ok in
+          record {
+            count = le;
+            size = length-onto a m (omega (arith, i.size)) ∙ i.size;
+            upon = rw km (ap (λ (x : List A). onto x m) i.upon ∙ onto-onto a₀ (take n a) m ln);
+            same = rw (km, ← i.same, cut, ← em, ok, ey) refl;
+          }
 
 -- ---- what a table keeps
 
