@@ -71,7 +71,7 @@ module _ (h : ℕ) (a : List Characteristic) (c : ℕ) (k : c ≤ length a) wher
   unfolding first
   below-pass j g n q = rw (here zero-characteristic a c j k g, le-ltb (get_or a j zero-characteristic).value_handle h q) n
 
-pub give-here : (h : ℕ) (t : Characteristics) (j : ℕ) → j < t.count → t.count ≤ 64 → length t.kept ≡ 64
+give-here : (h : ℕ) (t : Characteristics) (j : ℕ) → j < t.count → t.count ≤ 64 → length t.kept ≡ 64
     → below h (drop (j + 1) (known t)) ≡ false → (get_or t.kept j zero-characteristic).value_handle < h
     → record { kept = set t.kept j (marked h (get_or t.kept j zero-characteristic)); count = t.count } ≡ holding t (give h (known t))
 give-here h t j g c k n q =
@@ -80,6 +80,15 @@ give-here h t j g c k n q =
     let w : give h (known t) ≡ set (known t) j (marked h (get_or t.kept j zero-characteristic)) =
     give-hit h (known t) j (omega arith) (rw (← add-one j) n) (rw e q) ∙ ap (λ (x : Characteristic). set (known t) j (marked h x)) e in
     rw (w, ← set-in t.kept t.count j (marked h (get_or t.kept j zero-characteristic)) (omega arith) g, length-set (known t) j (marked h (get_or t.kept j zero-characteristic)), l)
+
+-- in the loop's table, which is still the first
+pub give-at : (h : ℕ) (t u : Characteristics) (j : ℕ) (x : Characteristic) → u ≡ t → j < t.count → t.count ≤ 64 → length t.kept ≡ 64
+    → below h (drop (j + 1) (known u)) ≡ false → (get_or u.kept j zero-characteristic).value_handle < h
+    → x ≡ marked h (get_or u.kept j zero-characteristic) → record { kept = set u.kept j x; count = u.count } ≡ holding t (give h (known t))
+give-at h t u j x e g c k n q ex =
+    ap (λ (y : Characteristic). record { kept = set u.kept j y; count = u.count }) ex
+    ∙ ap (λ (v : Characteristics). record { kept = set v.kept j (marked h (get_or v.kept j zero-characteristic)); count = v.count }) e
+    ∙ give-here h t j g c k (rw e at n) (rw e at q)
 
 pub give-nowhere : (h : ℕ) (t : Characteristics) → t.count ≤ 64 → length t.kept ≡ 64 → below h (known t) ≡ false
     → t ≡ holding t (give h (known t))

@@ -27,53 +27,40 @@ const TYPE_AT: usize = 2;
 fn mark(c: Characteristic, h: u16) -> Characteristic
     ensures { result ≡ marked h c }
 {
-    let known = c.cccd;
-    let uuid = c.uuid;
-    match known {
-        None => Characteristic {
-            declaration: c.declaration,
-            properties: c.properties,
-            value_handle: c.value_handle,
-            uuid,
-            cccd: Some(h),
-        },
+    match c.cccd {
+        None => Characteristic { cccd: Some(h), ..c },
         Some(_) => c,
     }
 }
 
 // The last characteristic with its value handle below h gets h, unless it has a CCCD.
-fn give_to(t: Characteristics, h: u16) -> Characteristics
+fn give_to(mut t: Characteristics, h: u16) -> Characteristics
     requires { t.count ≤ most_characteristics }
     ensures { result ≡ holding t (give h (known t)) }
 {
-    let a = t.kept;
-    let count = t.count;
-    let mut i = count;
-    while 0 < i {
-        let j = i - 1;
-        let c = a[j];
+    for i in (0..t.count).rev() {
+        let c = t.kept[i];
         if c.value_handle < h {
-            let mut kept = a;
-            kept[j] = mark(c, h);
-            return Characteristics { kept, count };
+            t.kept[i] = mark(c, h);
+            return t;
         }
-        i = j;
     }
     t
 }
 
-// The table after the entry from a to b.
-fn name_one(t: Characteristics, s: &[u8], a: usize, b: usize) -> Characteristics
-    requires { (t.count ≤ most_characteristics) × (a + 2 ≤ b) × (b ≤ length s.now) }
-    ensures { result ≡ holding t (given (known t) (part a b s.now)) }
+// The table after an entry.
+fn name_one(t: Characteristics, entry: &[u8]) -> Characteristics
+    requires { (t.count ≤ most_characteristics) × (2 ≤ length entry.now) }
+    ensures { result ≡ holding t (given (known t) entry.now) }
 {
-    let h = bytes_numbers::le16(s, a);
-    match Uuid::from_att(&s[a + TYPE_AT..b]) {
+    let h = bytes_numbers::le16(entry, 0);
+    match Uuid::from_att(&entry[TYPE_AT..]) {
         Some(u) => {
             if u == Uuid::from(CCCD) {
-                return give_to(t, h);
+                give_to(t, h)
+            } else {
+                t
             }
-            t
         }
         None => t,
     }
@@ -91,15 +78,11 @@ pub fn name_descriptors(
     requires { (t.count ≤ most_characteristics) × (2 ≤ len) × (from ≤ end) × (end ≤ length s.now) }
     ensures { result ≡ descriptors_named t first (entries len (part from end s.now)) }
 {
-    let mut u = t;
+    let mut table = t;
     let mut next = first;
-    let mut at = from;
-    while len <= end - at {
-        let past = at + len;
-        u = name_one(u, s, at, past);
-        let h = bytes_numbers::le16(s, at) as u32;
-        next = h + 1;
-        at = past;
+    for entry in s[from..end].chunks_exact(len) {
+        table = name_one(table, entry);
+        next = bytes_numbers::le16(entry, 0) as u32 + 1;
     }
-    Named { table: u, next }
+    Named { table, next }
 }

@@ -74,15 +74,13 @@ pub fn find_service(tables: &[u64; 1152], count: usize, uuid: Uuid) -> Option<Se
     requires { count ≤ most_services }
     ensures { result ≡ service_with uuid (take count (services_in tables.now)) }
 {
-    let mut i = 0;
-    while i < count {
+    for i in 0..count {
         let low = tables[words::SERVICE_LOW + i];
         let high = tables[words::SERVICE_HIGH + i];
         let u = Uuid { low, high };
         if u == uuid {
             return Some(service_at(tables, i));
         }
-        i += 1;
     }
     None
 }
@@ -98,11 +96,9 @@ pub fn services_of(tables: &[u64; 1152], count: usize) -> Services
         uuid: Uuid { low: 0, high: 0 },
     };
     let mut kept = [zero; 32];
-    let mut i = 0;
-    while i < count {
+    for i in 0..count {
         let s = service_at(tables, i);
         kept[i] = s;
-        i += 1;
     }
     Services { kept, count }
 }
@@ -112,13 +108,8 @@ pub fn put_services(tables: &mut [u64; 1152], t: Services)
     requires { t.count ≤ most_services }
     ensures { all.tables tables.new ≡ all.with_services (all.tables tables.old) (onto (services_in tables.old) (known t)) }
 {
-    let kept = t.kept;
-    let count = t.count;
-    let mut at = 0;
-    while at < count {
-        let s = kept[at];
-        put_service(tables, at, s);
-        at += 1;
+    for at in 0..t.count {
+        put_service(tables, at, t.kept[at]);
     }
 }
 

@@ -6,7 +6,4 @@ use Rattle.words.specs.Tables.{services_in}
 use Rattle.words_service.proofs.find_service.Given as goal
 
 abbrev pub invariant-loop-i : goal.invariant-loop-i
-invariant-loop-i l = (l.i ≤ l.count) × (l.count ≤ 32) × (service_with l.uuid (take l.count (services_in l.tables)) ≡ service_with l.uuid (drop l.i (take l.count (services_in l.tables))))
-
-abbrev pub decreases-loop-i : goal.decreases-loop-i
-decreases-loop-i l = l.count - l.i
+invariant-loop-i l = service_with l.uuid (take l.count (services_in l.tables)) ≡ service_with l.uuid (drop l.i (take l.count (services_in l.tables)))

@@ -6,7 +6,4 @@ use Rattle.words.specs.Tables as all
 use Rattle.words_service.proofs.put_services.Given as goal
 
 abbrev pub invariant-loop-at : goal.invariant-loop-at
-invariant-loop-at l = (l.at ≤ l.count) × (l.count ≤ 32) × (length l.kept ≡ 32) × (all.tables l.tables ≡ all.with_services (all.tables l.initial.tables) (onto (all.services_in l.initial.tables) (take l.at l.kept)))
-
-abbrev pub decreases-loop-at : goal.decreases-loop-at
-decreases-loop-at l = l.count - l.at
+invariant-loop-at l = all.tables l.tables ≡ all.with_services (all.tables l.initial.tables) (onto (all.services_in l.initial.tables) (take l.at l.t.kept))
