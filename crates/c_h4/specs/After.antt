@@ -29,4 +29,4 @@ abbrev pub written : List ℕ → List ℕ → Written
 written told out = record { told = told; out = out }
 
 abbrev pub after_build : build.Outcome → Written
-after_build o = written (built_words o.refusal o.len) o.out
+after_build o = written (built_words o.answer) o.out

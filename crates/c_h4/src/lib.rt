@@ -9,65 +9,59 @@ ghost use Rattle.h4_builders.specs.Events.{code_command_complete, command_comple
 ghost use Rattle.h4_builders.specs.Events.{code_completed_packets, completed_packets, code_le_meta, le_meta};
 ghost use Rattle.h4_builders.specs.Build.{build_acl, build_event};
 ghost use Rattle.h4_acl.specs.Acl.{parts_of, fragment_of};
-ghost use Rattle.c_h4.specs.Words.{stream_in, lost_word, stream_words, words_left, fed_words, built_words, length_words, parts_words, fragment_words};
+ghost use Rattle.c_h4.specs.Words.{lost_in, stream_in, lost_word, stream_words, words_left, fed_words, built_words, length_words, parts_words, fragment_words};
 ghost use Rattle.c_h4.specs.After.{fed, after_feed, written, after_build};
 
-use h4_acl::{Fragment, Parts};
-use h4_builders::Built;
-use h4_packets::{PacketLength, refusal};
-use h4_stream::{Fed, Lost, Stream};
+use h4_acl::{Acl, Fragment};
+use h4_packets::{Lost, Refusal, UndefinedIndicator};
+use h4_stream::{Fed, Stream};
 
 // Whether there is what was asked for.
 const THERE: u64 = 1;
 
 // ---- a stream in two words: how many bytes are held, and the refusal of a lost one
 
+fn lost_in(word: u64) -> Option<Lost>
+    ensures { result ≡ lost_in word }
+{
+    match word {
+        0 => None,
+        9 => Some(Lost::ByIndicator),
+        _ => Some(Lost::ByLength),
+    }
+}
+
+#[tactic(auto, unfolding(crate::specs::Words::stream_in))]
 fn stream_in(words: &[u64; 2]) -> Stream
     ensures { result ≡ stream_in words.now }
 {
-    let count = words[0] as usize;
-    let why = words[1];
-    if why == refusal::ACCEPTED as u64 {
-        return Stream {
-            count,
-            lost: Lost::No,
-        };
-    }
-    if why == refusal::BAD_INDICATOR as u64 {
-        return Stream {
-            count,
-            lost: Lost::ByIndicator,
-        };
-    }
     Stream {
-        count,
-        lost: Lost::ByLength,
+        count: words[0] as usize,
+        lost: lost_in(words[1]),
     }
 }
 
-fn lost_word(lost: Lost) -> u64
+fn lost_word(lost: Option<Lost>) -> u64
     ensures { result ≡ lost_word lost }
 {
-    match lost {
-        Lost::No => refusal::ACCEPTED as u64,
-        Lost::ByIndicator => refusal::BAD_INDICATOR as u64,
-        Lost::ByLength => refusal::LONG_PACKET as u64,
-    }
+    u64::from(h4_packets::told_number(lost.map(Refusal::from)))
+}
+
+fn stream_words(stream: Stream) -> [u64; 2]
+    ensures { result ≡ stream_words stream }
+{
+    [stream.count as u64, lost_word(stream.lost)]
 }
 
 // The words stay, if nothing was taken.
-fn give_stream(words: &mut [u64; 2], why: u8, next: Stream)
+#[tactic(auto, unfolding(crate::specs::Words::words_left))]
+fn give_stream(words: &mut [u64; 2], why: Option<Refusal>, next: Stream)
     ensures { words.new ≡ words_left why next words.old }
 {
-    if why == refusal::OVERHELD {
-        return;
+    match why {
+        Some(Refusal::Overheld | Refusal::ShortOutput) => {}
+        None | Some(Refusal::BadIndicator | Refusal::LongPacket) => *words = stream_words(next),
     }
-    if why == refusal::SHORT_OUTPUT {
-        return;
-    }
-    let count = next.count as u64;
-    let lost = next.lost;
-    *words = [count, lost_word(lost)];
 }
 
 // ---- answers in words
@@ -75,45 +69,60 @@ fn give_stream(words: &mut [u64; 2], why: u8, next: Stream)
 fn fed_words(a: Fed) -> [u64; 4]
     ensures { result ≡ fed_words a }
 {
-    [a.refusal as u64, a.packets as u64, a.len as u64, 0]
+    let refusal = u64::from(h4_packets::told_number(a.refusal));
+    [refusal, a.packets as u64, a.len as u64, 0]
 }
 
-fn built_words(b: Built) -> [u64; 4]
-    ensures { result ≡ built_words b.refusal b.len }
+fn built_words(built: Result<usize, Refusal>) -> [u64; 4]
+    ensures { result ≡ built_words built }
 {
-    [b.refusal as u64, b.len as u64, 0, 0]
+    match built {
+        Ok(len) => [0, len as u64, 0, 0],
+        Err(why) => [u64::from(why.number()), 0, 0, 0],
+    }
 }
 
-fn length_words(x: PacketLength) -> [u64; 4]
+fn length_words(x: Result<Option<usize>, UndefinedIndicator>) -> [u64; 4]
     ensures { result ≡ length_words x }
 {
     match x {
-        PacketLength::Unknown => [0, 0, 0, 0],
-        PacketLength::Known(n) => [0, THERE, n as u64, 0],
-        PacketLength::Undefined(indicator) => {
-            [refusal::BAD_INDICATOR as u64, 0, 0, indicator as u64]
-        }
+        Ok(None) => [0, 0, 0, 0],
+        Ok(Some(n)) => [0, THERE, n as u64, 0],
+        Err(UndefinedIndicator(byte)) => [
+            u64::from(Refusal::BadIndicator.number()),
+            0,
+            0,
+            u64::from(byte),
+        ],
     }
 }
 
-fn parts_words(x: Parts) -> [u64; 5]
+fn parts_words(x: Option<Acl>) -> [u64; 5]
     ensures { result ≡ parts_words x }
 {
     match x {
-        Parts::Acl(handle, flag, at, len) => {
-            [THERE, handle as u64, flag as u64, at as u64, len as u64]
-        }
-        Parts::Nothing => [0, 0, 0, 0, 0],
+        Some(acl) => [
+            THERE,
+            u64::from(acl.handle),
+            u64::from(acl.flag),
+            acl.place.at as u64,
+            acl.place.len as u64,
+        ],
+        None => [0, 0, 0, 0, 0],
     }
 }
 
-fn fragment_words(x: Fragment) -> [u64; 4]
+fn fragment_words(x: Option<Fragment>) -> [u64; 4]
     ensures { result ≡ fragment_words x }
 {
     match x {
-        Fragment::Start(at, len) => [THERE, 1, at as u64, len as u64],
-        Fragment::Continuation(at, len) => [THERE, 0, at as u64, len as u64],
-        Fragment::Nothing => [0, 0, 0, 0],
+        Some(fragment) => [
+            THERE,
+            u64::from(fragment.begins),
+            fragment.place.at as u64,
+            fragment.place.len as u64,
+        ],
+        None => [0, 0, 0, 0],
     }
 }
 
@@ -132,10 +141,7 @@ pub extern "C" fn barleyrope_h4_packet_len_words(bytes: &[u8], told: &mut [u64; 
 pub extern "C" fn barleyrope_h4_reset_words(stream: &mut [u64; 2])
     ensures { stream.new ≡ 0 ∷ 0 ∷ [] }
 {
-    let next = stream_in(stream).reset();
-    let count = next.count as u64;
-    let lost = next.lost;
-    *stream = [count, lost_word(lost)];
+    *stream = stream_words(stream_in(stream).reset());
 }
 
 // How many bytes are held. It tells them behind a refusal of 0.

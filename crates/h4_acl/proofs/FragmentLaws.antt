@@ -1,107 +1,93 @@
--- The fragment call of a packet, from its parts; and the part of the packet that is its data.
-use Prim.Native.Nat.{ℕ, ◌+◌, ◌-◌, ◌≤◌}
-use mathlib.Core.Path.{◌≡◌, refl, sym, ap, ◌∙◌}
+-- The fragment call of a packet, from its parts; and where its data lies.
+use Prim.Native.Nat.{ℕ, ◌+◌, ◌≤◌}
+use mathlib.Core.Path.{◌≡◌, refl, ap, ◌∙◌}
 use mathlib.Core.Bool.{Bool, true, false, ◌||◌}
-use mathlib.Core.List.{List, []}
+use mathlib.Core.List.{List}
 use mathlib.Core.Logic.{◌⊎◌, inl, inr}
-use native.Mathlib.Nat.{add-sub_cancel_left}
 use native.Mathlib.Omega.{arith}
-use lib.ListN.{length, take, drop}
+use lib.ListN.{length}
 use lib.Dec.{eqb}
 use borrow.Author.Tests.{eq-eqb, ne_eqb}
-use denote.Ref.{Bor}
+use Rattle.std.specs.Prelude.{Option, None, Some}
 use Rattle.bytes_base.specs.Choice.{pick}
-use Rattle.h4_acl.specs.Acl.{parts_of, by_flag, on_handle, fragment_of, acl_data, acl_at, fragment_data, fragment_at}
-use Rattle.h4_acl.specs.declared.Parts.{Parts}
-use Rattle.h4_acl.specs.declared.Parts.TheVariants as parts
+use Rattle.bytes_bounds.specs.declared.Span.{Span}
+use Rattle.h4_acl.specs.Acl.{parts_of, start, continuation, by_flag, on_handle, fragment_of, begins}
+use Rattle.h4_acl.specs.declared.Acl.{Acl}
 use Rattle.h4_acl.specs.declared.Fragment.{Fragment}
-use Rattle.h4_acl.specs.declared.Fragment.TheVariants.{Start, Continuation, Nothing}
-use Rattle.h4_acl.proofs.SplitLaws.{data-inside}
+use Rattle.h4_acl.proofs.SplitLaws.{parts-end, parts-inside}
 
 -- ---- by the flag
 
-module _ (flag at n : ℕ) where
-  pub flag-starts : (flag ≡ 0) ⊎ (flag ≡ 2) → Start at n ≡ by_flag flag at n
-  unfolding by_flag
+module _ (flag : ℕ) where
+  pub flag-starts : (flag ≡ 0) ⊎ (flag ≡ 2) → Some true ≡ begins flag
+  unfolding begins
   flag-starts (inl e) = rw e
   flag-starts (inr e) = rw e
 
-  pub flag-continues : flag ≡ 1 → Continuation at n ≡ by_flag flag at n
-  unfolding by_flag
+  pub flag-continues : flag ≡ 1 → Some false ≡ begins flag
+  unfolding begins
   flag-continues e = rw e
 
-  pub flag-other : ((flag ≡ 0) ⊎ (flag ≡ 2) → ⊥) → (flag ≡ 1 → ⊥) → Nothing ≡ by_flag flag at n
-  unfolding by_flag
+  pub flag-other : ((flag ≡ 0) ⊎ (flag ≡ 2) → ⊥) → (flag ≡ 1 → ⊥) → None ≡ begins flag
+  unfolding begins
   flag-other a b = rw (ne_eqb flag 0 (λ e. a (inl e)), ne_eqb flag 2 (λ e. a (inr e)), ne_eqb flag 1 b)
+
+  -- with the place of the data
+  abbrev with-place : Option Bool → Span → Option Fragment
+  with-place (Some b) place = Some (record { begins = b; place = place })
+  with-place None place = None
+
+  placed : (place : Span) → with-place (begins flag) place ≡ by_flag flag place
+  unfolding begins by_flag
+  placed place = go (eqb flag 0 || eqb flag 2) (eqb flag 1)
+    where
+      go : (x y : Bool) → with-place (pick x (Some true) (pick y (Some false) None)) place ≡ pick x (start place) (pick y (continuation place) None)
+      go true y = refl
+      go false true = refl
+      go false false = refl
 
 -- ---- on the connected handle
 
 module _ (s : List ℕ) (connected : ℕ) where
-  pub other-handle : (handle flag at n : ℕ) → parts.Acl handle flag at n ≡ parts_of s → (handle ≡ connected → ⊥) → Nothing ≡ fragment_of s connected
-  other-handle handle flag at n e h = rw (← e, ne_eqb handle connected h)
-
-  pub same-handle : (handle flag at n : ℕ) (r : Fragment) → parts.Acl handle flag at n ≡ parts_of s → handle ≡ connected → r ≡ by_flag flag at n
-      → r ≡ fragment_of s connected
-  same-handle handle flag at n r e h f = f ∙ rw (← e, eq-eqb handle connected h)
-
-  pub no-packet : parts.Nothing ≡ parts_of s → Nothing ≡ fragment_of s connected
+  pub no-packet : None ≡ parts_of s → None ≡ fragment_of s connected
   no-packet e = rw (← e)
 
-  -- where there is a fragment, its data lies in the packet
-  abbrev reach : Fragment → ℕ
-  reach (Start a k) = a + k
-  reach (Continuation a k) = a + k
-  reach Nothing = 0
+  module _ (p : Acl) (e : Some p ≡ parts_of s) where
+    pub other-handle : (p.handle ≡ connected → ⊥) → None ≡ fragment_of s connected
+    other-handle h = rw (← e, ne_eqb p.handle connected h)
 
-  by-reach : (flag at n : ℕ) → reach (by_flag flag at n) ≤ at + n
-  unfolding by_flag
-  by-reach flag at n = go (eqb flag 0 || eqb flag 2) (eqb flag 1)
-    where
-      go : (x y : Bool) → reach (pick x (Start at n) (pick y (Continuation at n) Nothing)) ≤ at + n
-      go true y = omega arith
-      go false true = omega arith
-      go false false = omega arith
+    module _ (h : p.handle ≡ connected) where
+      flagged : by_flag p.flag p.place ≡ fragment_of s connected
+      flagged = rw (← e, eq-eqb p.handle connected h)
 
-  on-reach : (p : Parts) → p ≡ parts_of s → reach (on_handle connected p) ≤ length s
-  on-reach (parts.Acl handle flag at n) e = go (eqb handle connected)
-    where
-      inside : at + n ≤ length s
-      inside = data-inside s handle flag at n e
+      pub same-handle : (b : Bool) → Some b ≡ begins p.flag → Some (record { begins = b; place = p.place }) ≡ fragment_of s connected
+      same-handle b f = ap (λ (o : Option Bool). with-place p.flag o p.place) f ∙ placed p.flag p.place ∙ flagged
 
-      go : (x : Bool) → reach (pick x (by_flag flag at n) Nothing) ≤ length s
-      go true = omega (arith, by-reach flag at n, inside)
-      go false = omega arith
-  on-reach parts.Nothing e = omega arith
+      pub no-fragment : None ≡ begins p.flag → None ≡ fragment_of s connected
+      no-fragment f = ap (λ (o : Option Bool). with-place p.flag o p.place) f ∙ placed p.flag p.place ∙ flagged
 
-  pub start-inside : (at n : ℕ) → Start at n ≡ fragment_of s connected → at + n ≤ length s
-  start-inside at n e = omega (arith, ap reach e, on-reach (parts_of s) refl)
+-- where the data of a fragment ends
+abbrev pub fragment-end : Option Fragment → ℕ
+fragment-end (Some f) = f.place.at + f.place.len
+fragment-end None = 0
 
-  pub continuation-inside : (at n : ℕ) → Continuation at n ≡ fragment_of s connected → at + n ≤ length s
-  continuation-inside at n e = omega (arith, ap reach e, on-reach (parts_of s) refl)
+flag-end : (flag : ℕ) (place : Span) → fragment-end (by_flag flag place) ≤ place.at + place.len
+unfolding by_flag
+flag-end flag place = go (eqb flag 0 || eqb flag 2) (eqb flag 1)
+  where
+    go : (x y : Bool) → fragment-end (pick x (start place) (pick y (continuation place) None)) ≤ place.at + place.len
+    go true y = omega arith
+    go false true = omega arith
+    go false false = omega arith
 
--- ---- the returned part
+handle-end : (connected : ℕ) (p : Option Acl) → fragment-end (on_handle connected p) ≤ parts-end p
+handle-end connected (Some p) = go (eqb p.handle connected)
+  where
+    go : (x : Bool) → fragment-end (pick x (by_flag p.flag p.place) None) ≤ p.place.at + p.place.len
+    go true = flag-end p.flag p.place
+    go false = omega arith
+handle-end connected None = omega arith
 
-module _ (d : Bor (List ℕ)) where
-  -- the answer, for bytes l that lie at p
-  abbrev pub AnswersAcl : List ℕ → ℕ × ℕ → Type 0
-  AnswersAcl l p = (l ≡ acl_data (parts_of d.now) d.now) × (p ≡ acl_at (parts_of d.now) d.ref_ptr)
-
-  pub acl-part : (handle flag at n : ℕ) → parts.Acl handle flag at n ≡ parts_of d.now → AnswersAcl (take (at + n - at) (drop at d.now)) (d.ref_ptr.0, at + d.ref_ptr.1)
-  acl-part handle flag at n e = rw (← e, add-sub_cancel_left at n) (refl, refl)
-
-  pub acl-none : parts.Nothing ≡ parts_of d.now → AnswersAcl [] d.ref_ptr
-  acl-none e = rw (← e) (refl, refl)
-
-  module _ (connected : ℕ) where
-    abbrev pub AnswersFragment : List ℕ → ℕ × ℕ → Type 0
-    AnswersFragment l p = (l ≡ fragment_data (fragment_of d.now connected) d.now) × (p ≡ fragment_at (fragment_of d.now connected) d.ref_ptr)
-
-    pub start-part : (at n : ℕ) → Start at n ≡ fragment_of d.now connected → AnswersFragment (take (at + n - at) (drop at d.now)) (d.ref_ptr.0, at + d.ref_ptr.1)
-    start-part at n e = rw (← e, add-sub_cancel_left at n) (refl, refl)
-
-    pub continuation-part : (at n : ℕ) → Continuation at n ≡ fragment_of d.now connected
-        → AnswersFragment (take (at + n - at) (drop at d.now)) (d.ref_ptr.0, at + d.ref_ptr.1)
-    continuation-part at n e = rw (← e, add-sub_cancel_left at n) (refl, refl)
-
-    pub none-part : Nothing ≡ fragment_of d.now connected → AnswersFragment [] d.ref_ptr
-    none-part e = rw (← e) (refl, refl)
+-- it lies in the packet
+pub fragment-inside : (s : List ℕ) (connected : ℕ) (f : Option Fragment) → f ≡ fragment_of s connected → fragment-end f ≤ length s
+fragment-inside s connected f e = rw e (omega (arith, handle-end connected (parts_of s), parts-inside s (parts_of s) refl))

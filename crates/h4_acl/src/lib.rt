@@ -1,25 +1,26 @@
 // An ACL packet taken apart, and the fragment call that it makes.
 #![tactic(auto)]
 
-ghost use Rattle.std.specs.Prelude.{◌≡◌, ◌+◌};
-ghost use Rattle.h4_acl.specs.Acl.{parts_of, acl_data, acl_at, by_flag, fragment_of, fragment_data, fragment_at};
+ghost use Rattle.std.specs.Prelude.{◌≡◌, ◌+◌, ◌≤◌, length};
+ghost use Rattle.h4_acl.specs.Acl.{parts_of, acl_data, acl_at, begins, fragment_of, fragment_data, fragment_at, part_in, part_at, end_of};
 
+use bytes_bounds::Span;
 use h4_builders::boundary;
-use h4_packets::indicator;
+use h4_packets::Indicator;
 
-// A split packet: handle, boundary flag, and where its data stands: place and length.
+// A split packet: handle, boundary flag, and where its data stands.
 #[derive(Clone, Copy)]
-pub enum Parts {
-    Acl(u16, u8, usize, usize),
-    Nothing,
+pub struct Acl {
+    pub handle: u16,
+    pub flag: u8,
+    pub place: Span,
 }
 
-// What a packet is to a connection: a fragment, with the place and the length of its data, or nothing.
+// What a packet is to a connection: whether a frame begins, and where its bytes stand.
 #[derive(Clone, Copy)]
-pub enum Fragment {
-    Start(usize, usize),
-    Continuation(usize, usize),
-    Nothing,
+pub struct Fragment {
+    pub begins: bool,
+    pub place: Span,
 }
 
 // Where the handle and the length stand.
@@ -27,28 +28,42 @@ const HANDLE_AT: usize = 1;
 
 const LENGTH_AT: usize = 3;
 
-// Nothing where it is no ACL packet, or shorter than its header or its stated length.
-pub fn acl_parts(packet: &[u8]) -> Parts
+// None where it is no ACL packet, or shorter than its header or its stated length.
+pub fn acl_parts(packet: &[u8]) -> Option<Acl>
     ensures { result ≡ parts_of packet.now }
 {
     let size = packet.len();
     if size < h4_builders::ACL_HEADER {
-        return Parts::Nothing;
+        return None;
     }
-    if packet[0] != indicator::ACL {
-        return Parts::Nothing;
+    if packet[0] != Indicator::Acl as u8 {
+        return None;
     }
-    let len = bytes_numbers::le16(packet, LENGTH_AT) as usize;
+    let len = usize::from(bytes_numbers::le16(packet, LENGTH_AT));
     if size - h4_builders::ACL_HEADER < len {
-        return Parts::Nothing;
+        return None;
     }
     let word = bytes_numbers::le16(packet, HANDLE_AT);
-    Parts::Acl(
-        word % 0x1000,
-        (word / 0x1000 % 4) as u8,
-        h4_builders::ACL_HEADER,
-        len,
-    )
+    Some(Acl {
+        handle: word % 0x1000,
+        flag: (word / 0x1000 % 4) as u8,
+        place: Span {
+            at: h4_builders::ACL_HEADER,
+            len,
+        },
+    })
+}
+
+// A part of a packet, or an empty one where there is none.
+fn part<'a>(packet: &'a [u8], place: Option<Span>) -> &'a [u8]
+    requires { end_of place ≤ length packet.now }
+    ensures result_value { result.now ≡ part_in place packet.now }
+    ensures ref_ptr_value { result.ref_ptr ≡ part_at place packet.entry.ref_ptr }
+{
+    match place {
+        Some(span) => &packet[span.at..span.at + span.len],
+        None => &packet[..0],
+    }
 }
 
 // The data of an ACL packet, or an empty part of what is none.
@@ -56,36 +71,33 @@ pub fn acl_data<'a>(packet: &'a [u8]) -> &'a [u8]
     ensures result_value { result.now ≡ acl_data (parts_of packet.now) packet.now }
     ensures ref_ptr_value { result.ref_ptr ≡ acl_at (parts_of packet.now) packet.entry.ref_ptr }
 {
-    match acl_parts(packet) {
-        Parts::Acl(_, _, at, len) => &packet[at..at + len],
-        Parts::Nothing => &packet[..0],
-    }
+    part(packet, acl_parts(packet).map(|acl| acl.place))
 }
 
-// Flags 00 and 10 start, 01 continues, 11 is nothing.
-fn by_flag(flag: u8, at: usize, len: usize) -> Fragment
-    ensures { result ≡ by_flag flag at len }
+// Whether a frame begins: flags 00 and 10 begin one, 01 continues one, 11 is nothing.
+fn begins(flag: u8) -> Option<bool>
+    ensures { result ≡ begins flag }
 {
     match flag {
-        boundary::FIRST_NON_FLUSHABLE | boundary::FIRST_FLUSHABLE => Fragment::Start(at, len),
-        boundary::CONTINUING => Fragment::Continuation(at, len),
-        _ => Fragment::Nothing,
+        boundary::FIRST_NON_FLUSHABLE | boundary::FIRST_FLUSHABLE => Some(true),
+        boundary::CONTINUING => Some(false),
+        _ => None,
     }
 }
 
-// The fragment call that a packet makes on the connected handle, or nothing: no ACL packet, another handle's, flag 11.
-pub fn fragment_of(packet: &[u8], connected: u16) -> Fragment
+// The fragment call that a packet makes on the connected handle, or None: no ACL packet, another handle's, flag 11.
+pub fn fragment_of(packet: &[u8], connected: u16) -> Option<Fragment>
     ensures { result ≡ fragment_of packet.now connected }
 {
-    match acl_parts(packet) {
-        Parts::Acl(handle, flag, at, len) => {
-            if handle != connected {
-                return Fragment::Nothing;
-            }
-            by_flag(flag, at, len)
-        }
-        Parts::Nothing => Fragment::Nothing,
+    let acl = acl_parts(packet)?;
+    if acl.handle != connected {
+        return None;
     }
+    let begins = begins(acl.flag)?;
+    Some(Fragment {
+        begins,
+        place: acl.place,
+    })
 }
 
 // The bytes of that fragment, or an empty part of the packet.
@@ -93,9 +105,8 @@ pub fn fragment_data<'a>(packet: &'a [u8], connected: u16) -> &'a [u8]
     ensures result_value { result.now ≡ fragment_data (fragment_of packet.now connected) packet.now }
     ensures ref_ptr_value { result.ref_ptr ≡ fragment_at (fragment_of packet.now connected) packet.entry.ref_ptr }
 {
-    match fragment_of(packet, connected) {
-        Fragment::Start(at, len) => &packet[at..at + len],
-        Fragment::Continuation(at, len) => &packet[at..at + len],
-        Fragment::Nothing => &packet[..0],
-    }
+    part(
+        packet,
+        fragment_of(packet, connected).map(|fragment| fragment.place),
+    )
 }

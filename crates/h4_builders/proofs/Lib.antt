@@ -1,4 +1,2 @@
 pub mod Pieces
 pub mod BuildLaws
-pub mod EventLaws
-pub mod AclLaws

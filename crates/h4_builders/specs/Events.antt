@@ -25,6 +25,11 @@ unfoldable pub pair_bytes : ℕ → List ℕ → List ℕ
 pair_bytes zero pairs = []
 pair_bytes (suc n) pairs = le_bytes 2 (get_or pairs 0 0) ++ (le_bytes 2 (get_or pairs 1 0) ++ pair_bytes n (drop 2 pairs))
 
+-- each of a list of numbers in two bytes
+unfoldable pub number_bytes : List ℕ → List ℕ
+number_bytes [] = []
+number_bytes (v ∷ numbers) = le_bytes 2 v ++ number_bytes numbers
+
 -- an odd last number is no pair and is left out
 unfoldable pub completed_packets : List ℕ → List ℕ
 completed_packets pairs = le_bytes 1 (length pairs / 2) ++ pair_bytes (length pairs / 2) pairs

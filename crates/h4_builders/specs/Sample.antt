@@ -1,6 +1,7 @@
 -- Worked samples: packets by hand, and the edges of the two refusals.
-use Rattle.std.specs.Prelude.{ℕ, ◌≡◌, refl, List, [], ◌∷◌, ◌++◌, replicate}
+use Rattle.std.specs.Prelude.{◌≡◌, refl, [], ◌∷◌, replicate, Ok, Err}
 use Rattle.bytes_base.specs.Bytes.{le_bytes}
+use Rattle.h4_packets.specs.declared.Refusal.TheVariants.{ShortOutput, LongPacket}
 use Rattle.h4_builders.specs.Packet.{acl_packet, event_header, event_packet}
 use Rattle.h4_builders.specs.Events.{code_command_complete, command_complete, code_command_status, command_status, code_completed_packets, pair_bytes, completed_packets, code_le_meta, le_meta}
 use Rattle.h4_builders.specs.Build.{built, build, build_acl, build_event}
@@ -43,25 +44,25 @@ meta = refl
 -- ---- the output
 
 -- the byte behind the packet stays
-stays : build_event (9 ∷ 9 ∷ 9 ∷ 9 ∷ 9 ∷ []) 0x3E (0x01 ∷ []) ≡ built (0x04 ∷ 0x3E ∷ 0x01 ∷ 0x01 ∷ 9 ∷ []) 0 4
+stays : build_event (9 ∷ 9 ∷ 9 ∷ 9 ∷ 9 ∷ []) 0x3E (0x01 ∷ []) ≡ built (0x04 ∷ 0x3E ∷ 0x01 ∷ 0x01 ∷ 9 ∷ []) (Ok 4)
 unfolding build event_packet event_header le_bytes
 stays = refl
 
 -- one byte short
-short : build_event (9 ∷ 9 ∷ 9 ∷ []) 0x3E (0x01 ∷ []) ≡ built (9 ∷ 9 ∷ 9 ∷ []) 2 0
+short : build_event (9 ∷ 9 ∷ 9 ∷ []) 0x3E (0x01 ∷ []) ≡ built (9 ∷ 9 ∷ 9 ∷ []) (Err ShortOutput)
 unfolding build event_packet event_header le_bytes
 short = refl
 
 -- 256 parameter bytes: 2 where the output has not the 259 bytes of that packet, 10 where it has
-short-and-long : build_event (replicate 258 9) 0x3E (replicate 256 1) ≡ built (replicate 258 9) 2 0
+short-and-long : build_event (replicate 258 9) 0x3E (replicate 256 1) ≡ built (replicate 258 9) (Err ShortOutput)
 unfolding build event_packet event_header le_bytes
 short-and-long = refl
 
-long : build_event (replicate 259 9) 0x3E (replicate 256 1) ≡ built (replicate 259 9) 10 0
+long : build_event (replicate 259 9) 0x3E (replicate 256 1) ≡ built (replicate 259 9) (Err LongPacket)
 unfolding build event_packet event_header le_bytes
 long = refl
 
 -- 1,020 bytes of ACL data
-long-acl : build_acl (replicate 1025 9) 1 0 (replicate 1020 1) ≡ built (replicate 1025 9) 10 0
+long-acl : build_acl (replicate 1025 9) 1 0 (replicate 1020 1) ≡ built (replicate 1025 9) (Err LongPacket)
 unfolding build acl_packet le_bytes
 long-acl = refl

@@ -1,4 +1,5 @@
 // Event codes, Core Vol 4 Part E 7.7.
+// Kept: numbers, since `event` takes any code.
 pub const COMMAND_COMPLETE: u8 = 0x0E;
 
 pub const COMMAND_STATUS: u8 = 0x0F;

@@ -1,57 +1,54 @@
 -- What stands at the front of bytes, case by case as the code finds it; and that bytes behind change no decision on the first packet.
 use Prim.Native.Nat.{ℕ, ◌+◌, ◌-◌, ◌≤◌, ◌<◌}
-use mathlib.Core.Path.{◌≡◌, refl, sym, ap, ◌∙◌}
+use mathlib.Core.Path.{◌≡◌, refl, sym}
 use mathlib.Core.Bool.{Bool, true, false}
 use mathlib.Core.List.{List, [], ◌∷◌, ◌++◌}
 use native.Mathlib.Omega.{arith}
 use lib.ListN.{length, take, get_or, length-append, get_or-append}
 use lib.Seq.{length-take-le, get_or-take}
-use lib.Dec.{leb, ltb, eqb}
-use borrow.Author.Tests.{lt-ltb, le-ltb, le-leb, lt-leb, leb-true, leb-false, ltb-true, ltb-false, eqb-true, eqb-false}
-use Rattle.h4_packets.specs.Packet.{packet_length, header_size, payload_size}
-use Rattle.h4_packets.specs.Front.{front_by, front}
-use Rattle.h4_packets.specs.declared.PacketLength.{PacketLength}
-use Rattle.h4_packets.specs.declared.PacketLength.TheVariants.{Unknown, Known, Undefined}
-use Rattle.h4_packets.specs.declared.Front.{Front}
-use Rattle.h4_packets.specs.declared.Front.TheVariants.{More, Whole, BadIndicator, LongPacket}
+use lib.Dec.{leb, eqb}
+use borrow.Author.Tests.{lt-ltb, le-ltb, le-leb, lt-leb, leb-true, leb-false, eqb-true, eqb-false}
+use Rattle.std.specs.Prelude.{None, Some, Ok, Err}
+use Rattle.h4_packets.specs.Names.{undefined}
+use Rattle.h4_packets.specs.Packet.{PacketLength, packet_length, header_size, payload_size}
+use Rattle.h4_packets.specs.Front.{Front, front_by, front}
+use Rattle.h4_packets.specs.declared.UndefinedIndicator.{UndefinedIndicator}
+use Rattle.h4_packets.specs.declared.Lost.TheVariants.{ByIndicator, ByLength}
 use Rattle.h4_packets.proofs.LengthLaws.{header-most, header-least, packet-empty, packet-undefined, packet-unknown, packet-known}
 
-told : (s : List ℕ) (l : PacketLength) → l ≡ packet_length s → front_by l (length s) ≡ front s
-unfolding front
-told s l e = rw e
+-- ---- by the packet's length
 
-pub front-empty : (s : List ℕ) → length s ≡ 0 → More ≡ front s
-front-empty s e = told s Unknown (packet-empty s e)
+module _ (s : List ℕ) where
+  told : (l : PacketLength) → l ≡ packet_length s → front_by l (length s) ≡ front s
+  unfolding front
+  told l e = rw e
 
-module _ (s : List ℕ) (some : length s ≡ 0 → ⊥) (i : ℕ) (is : i ≡ get_or s 0 0) (h : ℕ) (is-h : h ≡ header_size i) where
-  pub front-bad : h ≡ 0 → BadIndicator ≡ front s
-  front-bad e = told s (Undefined i) (packet-undefined s some i is h is-h e)
+  pub front-unnamed : (e : UndefinedIndicator) → Err e ≡ packet_length s → Err ByIndicator ≡ front s
+  front-unnamed e = told (Err e)
 
-  module _ (defined : h ≡ 0 → ⊥) where
-    pub front-short : length s < h → More ≡ front s
-    front-short short = told s Unknown (packet-unknown s some i is h is-h defined short)
+  pub front-unknown : Ok None ≡ packet_length s → Ok None ≡ front s
+  front-unknown = told (Ok None)
 
-    module _ (there : h ≤ length s) (p : ℕ) (is-p : p ≡ payload_size i (get_or s (h - 2) 0) (get_or s (h - 1) 0)) where
-      known : front_by (Known (h + p)) (length s) ≡ front s
-      known = told s (Known (h + p)) (packet-known s some i is h is-h defined there p is-p)
+  module _ (n : ℕ) (e : Ok (Some n) ≡ packet_length s) where
+    pub front_long : 1024 < n → Err ByLength ≡ front s
+    front_long long = rw (lt-ltb 1024 n long) at (told (Ok (Some n)) e)
 
-      pub front_long : 1024 < h + p → LongPacket ≡ front s
-      front_long long = rw (lt-ltb 1024 (h + p) long) at known
+    pub front-part : n ≤ 1024 → length s < n → Ok None ≡ front s
+    front-part fits short = rw (le-ltb 1024 n fits, lt-leb n (length s) short) at (told (Ok (Some n)) e)
 
-      pub front-part : h + p ≤ 1024 → length s < h + p → More ≡ front s
-      front-part fits short = rw (le-ltb 1024 (h + p) fits, lt-leb (h + p) (length s) short) at known
+    pub front-whole : n ≤ 1024 → n ≤ length s → Ok (Some n) ≡ front s
+    front-whole fits all = rw (le-ltb 1024 n fits, le-leb n (length s) all) at (told (Ok (Some n)) e)
 
-      pub front-whole : h + p ≤ 1024 → h + p ≤ length s → Whole (h + p) ≡ front s
-      front-whole fits all = rw (le-ltb 1024 (h + p) fits, le-leb (h + p) (length s) all) at known
+pub front-empty : (s : List ℕ) → length s ≡ 0 → Ok None ≡ front s
+front-empty s e = front-unknown s (packet-empty s e)
 
 -- ---- bytes behind
 
 -- a decision on the first packet stands whatever follows, and a packet is whole by itself; where no decision is made, less than a packet is there
 abbrev pub Stable : List ℕ → Front → Type 0
-Stable s More = length s < 1024
-Stable s (Whole n) = (0 < n) × ((n ≤ length s) × (((t : List ℕ) → Whole n ≡ front (s ++ t)) × (Whole n ≡ front (take n s))))
-Stable s BadIndicator = (t : List ℕ) → BadIndicator ≡ front (s ++ t)
-Stable s LongPacket = (t : List ℕ) → LongPacket ≡ front (s ++ t)
+Stable s (Ok None) = length s < 1024
+Stable s (Ok (Some n)) = (0 < n) × ((n ≤ length s) × (((t : List ℕ) → Ok (Some n) ≡ front (s ++ t)) × (Ok (Some n) ≡ front (take n s))))
+Stable s (Err lost) = (t : List ℕ) → Err lost ≡ front (s ++ t)
 
 by_order : (P : Type 0) (a b : ℕ) → (a ≤ b → P) → (b < a → P) → P
 by_order P a b below above = go (leb a b) refl
@@ -80,7 +77,9 @@ module _ (s : List ℕ) (some : 0 < length s) where
   first t = sym (get_or-append s t 0 0 some)
 
   bad : h ≡ 0 → Stable s (front s)
-  bad e = rw (← front-bad s (λ z. omega arith) i refl h refl e) (λ t. front-bad (s ++ t) (not-empty t) i (first t) h refl e)
+  bad e =
+      rw (← front-unnamed s (undefined i) (packet-undefined s (λ z. omega arith) i refl h refl e))
+      (λ t. front-unnamed (s ++ t) (undefined i) (packet-undefined (s ++ t) (not-empty t) i (first t) h refl e))
 
   module _ (defined : h ≡ 0 → ⊥) where
     least : 3 ≤ h
@@ -89,44 +88,40 @@ module _ (s : List ℕ) (some : 0 < length s) where
     short : length s < h → Stable s (front s)
     short k =
         let m = header-most i in
-        rw (← front-short s (λ z. omega arith) i refl h refl defined k) (omega arith)
+        rw (← front-unknown s (packet-unknown s (λ z. omega arith) i refl h refl defined k)) (omega arith)
 
     module _ (there : h ≤ length s) where
-      same : (t : List ℕ) → p ≡ payload_size i (get_or (s ++ t) (h - 2) 0) (get_or (s ++ t) (h - 1) 0)
-      same t =
+      known : Ok (Some (h + p)) ≡ packet_length s
+      known = packet-known s (λ z. omega arith) i refl h refl defined there p refl
+
+      known-behind : (t : List ℕ) → Ok (Some (h + p)) ≡ packet_length (s ++ t)
+      known-behind t =
           let l = least in
-          rw (get_or-append s t 0 (h - 2) (omega arith), get_or-append s t 0 (h - 1) (omega arith))
+          packet-known (s ++ t) (not-empty t) i (first t) h refl defined (longer s t h there) p
+          (rw (get_or-append s t 0 (h - 2) (omega arith), get_or-append s t 0 (h - 1) (omega arith)))
 
       long : 1024 < h + p → Stable s (front s)
-      long k =
-          rw (← front_long s (λ z. omega arith) i refl h refl defined there p refl k)
-          (λ t. front_long (s ++ t) (not-empty t) i (first t) h refl defined (longer s t h there) p (same t) k)
+      long k = rw (← front_long s (h + p) known k) (λ t. front_long (s ++ t) (h + p) (known-behind t) k)
 
       part : h + p ≤ 1024 → length s < h + p → Stable s (front s)
-      part fits k = rw (← front-part s (λ z. omega arith) i refl h refl defined there p refl fits k) (omega arith)
+      part fits k = rw (← front-part s (h + p) known fits k) (omega arith)
 
-      alone : h + p ≤ 1024 → h + p ≤ length s → Whole (h + p) ≡ front (take (h + p) s)
+      alone : h + p ≤ 1024 → h + p ≤ length s → Ok (Some (h + p)) ≡ front (take (h + p) s)
       alone fits k =
           let u = take (h + p) s in
           let l : length u ≡ h + p = length-take-le (h + p) s k in
           let m = least in
-          front-whole u (λ z. omega arith) i (sym (get_or-take (h + p) s 0 0 (omega arith))) h refl defined (omega arith) p
-          (rw (get_or-take (h + p) s (h - 2) 0 (omega arith), get_or-take (h + p) s (h - 1) 0 (omega arith)))
-          fits
-          (omega arith)
+          let e : Ok (Some (h + p)) ≡ packet_length u =
+          packet-known u (λ z. omega arith) i (sym (get_or-take (h + p) s 0 0 (omega arith))) h refl defined (omega arith) p
+          (rw (get_or-take (h + p) s (h - 2) 0 (omega arith), get_or-take (h + p) s (h - 1) 0 (omega arith))) in
+          front-whole u (h + p) e fits (omega arith)
 
       whole : h + p ≤ 1024 → h + p ≤ length s → Stable s (front s)
       whole fits k =
           let l = least in
-          rw (← front-whole s (λ z. omega arith) i refl h refl defined there p refl fits k) (
+          rw (← front-whole s (h + p) known fits k) (
             omega arith,
-            (
-              k,
-              (
-                (λ t. front-whole (s ++ t) (not-empty t) i (first t) h refl defined (longer s t h there) p (same t) fits (longer s t (h + p) k)),
-                alone fits k,
-              ),
-            ),
+            (k, ((λ t. front-whole (s ++ t) (h + p) (known-behind t) fits (longer s t (h + p) k)), alone fits k)),
           )
 
       measured : Stable s (front s)
@@ -146,5 +141,5 @@ module _ (s : List ℕ) (some : 0 < length s) where
       go false e = read (eqb-false h 0 e)
 
 pub stable : (s : List ℕ) → Stable s (front s)
-stable [] = rw (← front-empty [] refl) (omega arith)
+stable [] = rw (← front-unknown [] (packet-empty [] refl)) (omega arith)
 stable (x ∷ s) = stable-some (x ∷ s) (omega arith)

@@ -1,14 +1,18 @@
 -- How many bytes an H4 packet takes: Core Vol 4 Part A 2 (an indicator in front of each packet) and Part E 5.4.1 to 5.4.5 (headers, length fields).
-use Rattle.std.specs.Prelude.{ℕ, ◌+◌, ◌*◌, ◌%◌, List, [], ◌∷◌, length, get_or, leb, eqb}
+use Rattle.std.specs.Prelude.{ℕ, ◌+◌, ◌*◌, ◌%◌, List, [], ◌∷◌, length, get_or, leb, eqb, Option, None, Some, Result, Ok, Err}
 use Rattle.bytes_base.specs.Choice.{pick}
 use Rattle.bytes_base.specs.Bytes.{le_at}
 use Rattle.h4_packets.specs.Numbers.{command, acl, sco, event, iso}
-use Rattle.h4_packets.specs.declared.PacketLength.{PacketLength}
-use Rattle.h4_packets.specs.declared.PacketLength.TheVariants.{Unknown, Known, Undefined}
+use Rattle.h4_packets.specs.Names.{undefined}
+use Rattle.h4_packets.specs.declared.UndefinedIndicator.{UndefinedIndicator}
 
--- the length of a packet whose indicator and header take `header` bytes and whose payload takes `payload`: unknown until the header is there
+-- the length of a packet, None where it is unknown; or an indicator that is undefined
+abbrev pub PacketLength : Type 0
+PacketLength = Result (Option ℕ) UndefinedIndicator
+
+-- of a packet whose indicator and header take `header` bytes and whose payload takes `payload`: unknown until the header is there
 abbrev pub told : ℕ → ℕ → List ℕ → PacketLength
-told header payload s = pick (leb header (length s)) (Known (header + payload)) Unknown
+told header payload s = pick (leb header (length s)) (Ok (Some (header + payload))) (Ok None)
 
 -- the packet s with the indicator i
 unfoldable pub length_by : ℕ → List ℕ → PacketLength
@@ -23,11 +27,11 @@ length_by i s =
     (pick (eqb i event) (told 3 (get_or s 2 0) s)
     -- 5.4.5: handle and flags (2), data load length (14 bits, and 2 that are reserved)
     (pick (eqb i iso) (told 5 (le_at 2 s 3 % 0x4000) s)
-    (Undefined i)))))
+    (Err (undefined i))))))
 
 -- the packet at the front of s: its first byte alone tells whether the indicator is defined
 unfoldable pub packet_length : List ℕ → PacketLength
-packet_length [] = Unknown
+packet_length [] = Ok None
 packet_length (i ∷ s) = length_by i (i ∷ s)
 
 -- ---- its parts, as the code finds them

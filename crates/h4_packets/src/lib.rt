@@ -1,27 +1,42 @@
 // What stands at the front of an H4 byte stream: packet indicators (Core Vol 4 Part A 2), headers and lengths (Part E 5.4).
 #![tactic(auto)]
 
-ghost use Rattle.std.specs.Prelude.{◌≡◌, ◌+◌, ◌≤◌, ◌<◌};
+ghost use Rattle.std.specs.Prelude.{◌≡◌, ℕ, ◌+◌, ◌≤◌, ◌<◌, List, length, get_or};
 ghost use Rattle.h4_packets.specs.Packet.{header_size, payload_size, packet_length};
+ghost use Rattle.h4_packets.specs.Names.{code, named, number, told_number, refusal_by};
 
-pub mod indicator;
-pub mod refusal;
-
-// How many bytes the packet at the front takes, indicator and header counted.
-#[derive(Clone, Copy)]
-pub enum PacketLength {
-    Unknown,
-    Known(usize),
-    Undefined(u8),
+// Packet indicators, Core Vol 4 Part A 2.
+#[derive(Clone, Copy, PartialEq, Eq)]
+pub enum Indicator {
+    Command = 1,
+    Acl = 2,
+    Sco = 3,
+    Event = 4,
+    Iso = 5,
 }
 
-// What a stream finds at its front.
-#[derive(Clone, Copy)]
-pub enum Front {
-    More,
-    Whole(usize),
-    BadIndicator,
-    LongPacket,
+// A byte that is no packet indicator.
+#[derive(Clone, Copy, PartialEq, Eq)]
+pub struct UndefinedIndicator(pub u8);
+
+// How framing is lost: by an undefined indicator, or by a packet that is too long.
+#[derive(Clone, Copy, PartialEq, Eq)]
+pub enum Lost {
+    ByIndicator,
+    ByLength,
+}
+
+// Refusals of the serial transport, in order of test.
+#[derive(Clone, Copy, PartialEq, Eq)]
+pub enum Refusal {
+    // More than 1,024 bytes are held.
+    Overheld = 1,
+    // The output is too short.
+    ShortOutput = 2,
+    // The packet indicator is undefined.
+    BadIndicator = 9,
+    // The packet is too long.
+    LongPacket = 10,
 }
 
 // The longest packet that a stream takes, indicator and header counted.
@@ -30,52 +45,123 @@ pub const LONGEST: usize = 1024;
 // Lengths of ISO data are below this: 14 bits, and 2 reserved ones above them.
 const ISO_LENGTHS: usize = 0x4000;
 
-fn wide(b: u8) -> usize
-    ensures { (result ≡ b) × (result < 256) }
-{
-    b as usize
-}
+impl TryFrom<u8> for Indicator {
+    type Error = UndefinedIndicator;
 
-// Bytes of the indicator and the header, or 0 where the indicator is undefined.
-pub fn header_size(indicator: u8) -> usize
-    ensures { result ≡ header_size indicator }
-{
-    match indicator {
-        indicator::COMMAND => 4,
-        indicator::ACL => 5,
-        indicator::SCO => 4,
-        indicator::EVENT => 3,
-        indicator::ISO => 5,
-        _ => 0,
+    ghost try_from_gives = { λ byte r. r ≡ named byte };
+
+    fn try_from(byte: u8) -> Result<Self, UndefinedIndicator> {
+        match byte {
+            1 => Ok(Indicator::Command),
+            2 => Ok(Indicator::Acl),
+            3 => Ok(Indicator::Sco),
+            4 => Ok(Indicator::Event),
+            5 => Ok(Indicator::Iso),
+            _ => Err(UndefinedIndicator(byte)),
+        }
     }
 }
 
-// Bytes behind the header. The length field ends each header: its last byte, or its last two.
-pub fn payload_size(indicator: u8, before: u8, last: u8) -> usize
-    ensures { (result ≡ payload_size indicator before last) × (result < 65536) }
-{
-    match indicator {
-        indicator::ACL => wide(before) + 256 * wide(last),
-        indicator::ISO => (wide(before) + 256 * wide(last)) % ISO_LENGTHS,
-        _ => wide(last),
+impl Indicator {
+    // Bytes of the indicator and the header.
+    #[tactic(auto, unfolding(crate::specs::Packet::header_size))]
+    pub fn header_size(self) -> usize
+        ensures value { result ≡ header_size (code self) }
+        ensures least { 3 ≤ result }
+        ensures most { result ≤ 5 }
+    {
+        match self {
+            Indicator::Command => 4,
+            Indicator::Acl => 5,
+            Indicator::Sco => 4,
+            Indicator::Event => 3,
+            Indicator::Iso => 5,
+        }
     }
+
+    // Bytes behind the header. The length field ends each header: its last byte, or its last two.
+    #[tactic(auto, unfolding(crate::specs::Packet::payload_size))]
+    pub fn payload_size(self, before: u8, last: u8) -> usize
+        ensures value { result ≡ payload_size (code self) before last }
+        ensures most { result < 65536 }
+    {
+        let wide = usize::from(u16::from_le_bytes([before, last]));
+        match self {
+            Indicator::Acl => wide,
+            Indicator::Iso => wide % ISO_LENGTHS,
+            Indicator::Command | Indicator::Sco | Indicator::Event => usize::from(last),
+        }
+    }
+}
+
+impl Refusal {
+    pub fn number(self) -> u8
+        ensures { result ≡ number self }
+    {
+        self as u8
+    }
+}
+
+// The number that a feed or a builder tells: 0 if it is not refused.
+pub fn told_number(refusal: Option<Refusal>) -> u8
+    ensures { result ≡ told_number refusal }
+{
+    match refusal {
+        None => 0,
+        Some(why) => why.number(),
+    }
+}
+
+impl From<UndefinedIndicator> for Lost {
+    ghost use Rattle.h4_packets.specs.declared.Lost.TheVariants.{ByIndicator};
+
+    ghost from_gives = { λ _ lost. lost ≡ ByIndicator };
+
+    fn from(_undefined: UndefinedIndicator) -> Self {
+        Self::ByIndicator
+    }
+}
+
+impl From<Lost> for Refusal {
+    ghost from_gives = { λ lost refusal. refusal ≡ refusal_by lost };
+
+    fn from(lost: Lost) -> Refusal {
+        match lost {
+            Lost::ByIndicator => Refusal::BadIndicator,
+            Lost::ByLength => Refusal::LongPacket,
+        }
+    }
+}
+
+// The length of the packet at the front of `there` bytes: `byte(i)` is the one at index i. None where too few are there to tell.
+pub fn packet_len<F: Fn(usize) -> u8>(
+    there: usize,
+    byte: F,
+) -> Result<Option<usize>, UndefinedIndicator>
+    requires { (i : ℕ) → i < there → F.pre byte i }
+    ensures { (s : List ℕ) → length s ≡ there → ((i b : ℕ) → i < there → F.post byte i b → b ≡ get_or s i 0) → result ≡ packet_length s }
+{
+    if there == 0 {
+        return Ok(None);
+    }
+    let indicator = Indicator::try_from(byte(0))?;
+    let header = indicator.header_size();
+    if there < header {
+        return Ok(None);
+    }
+    let before = byte(header - 2);
+    let last = byte(header - 1);
+    Ok(Some(header + indicator.payload_size(before, last)))
 }
 
 // hci.rs, h4_packet_len.
-pub fn h4_packet_len(bytes: &[u8]) -> PacketLength
+pub fn h4_packet_len(bytes: &[u8]) -> Result<Option<usize>, UndefinedIndicator>
     ensures { result ≡ packet_length bytes.now }
 {
-    if bytes.len() == 0 {
-        return PacketLength::Unknown;
-    }
-    let indicator = bytes[0];
-    let header = header_size(indicator);
-    if header == 0 {
-        return PacketLength::Undefined(indicator);
-    }
-    if bytes.len() < header {
-        return PacketLength::Unknown;
-    }
-    let size = header + payload_size(indicator, bytes[header - 2], bytes[header - 1]);
-    PacketLength::Known(size)
+    packet_len(
+        bytes.len(),
+        |i|
+            requires { i < length bytes.now }
+        { bytes[i] },
+    )
 }

@@ -2,49 +2,45 @@
 use Prim.Native.Nat.{ℕ, suc, ◌+◌, ◌-◌, ◌≤◌, ◌<◌}
 use mathlib.Core.Path.{◌≡◌, refl, sym, ap, ◌∙◌}
 use mathlib.Core.Bool.{Bool, true, false}
-use mathlib.Core.List.{List, [], ◌∷◌, ◌++◌}
+use mathlib.Core.List.{List, [], ◌++◌}
 use native.Mathlib.Omega.{arith}
 use native.Mathlib.Nat.{add-zero}
 use lib.ListN.{length, take, drop, length-append, length-drop}
 use lib.Seq.{length-take-le, drop-drop}
-use lib.Dec.{leb, ltb}
+use lib.Dec.{leb}
 use borrow.Author.Tests.{lt-ltb, le-ltb}
 use Rattle.bytes_base.proofs.TestLaws.{fits-yes, fits-no}
 use Rattle.lists.specs.Queue.{onto}
-use Rattle.h4_packets.specs.Numbers.{overheld, short_output, longest}
+use Rattle.std.specs.Prelude.{Option, None, Some, Ok, Err}
+use Rattle.h4_packets.specs.Numbers.{longest}
 use Rattle.h4_packets.specs.Front.{front}
-use Rattle.h4_packets.specs.declared.Front.TheVariants.{More, Whole, BadIndicator, LongPacket}
-use Rattle.h4_packets.proofs.FrontLaws.{Stable, stable}
-use Rattle.h4_stream.specs.declared.Lost.{Lost}
-use Rattle.h4_stream.specs.declared.Lost.TheVariants.{No, ByIndicator, ByLength}
+use Rattle.h4_packets.specs.declared.Lost.{Lost}
+use Rattle.h4_packets.specs.declared.Refusal.TheVariants.{Overheld, ShortOutput}
+use Rattle.h4_packets.proofs.FrontLaws.{stable}
 use Rattle.h4_stream.specs.declared.Stream.{Stream}
 use Rattle.h4_stream.specs.declared.Reach.{Reach}
 use Rattle.h4_stream.specs.declared.Fed.{Fed}
 use Rattle.h4_stream.specs.Cut.{Cut, ends, after, cut, joined}
-use Rattle.h4_stream.specs.Feed.{in_hand, answered, outcome, given, refused, cut_from, feeding, reached}
-use Rattle.h4_stream.proofs.HandLaws.{length-hand}
-use Rattle.h4_stream.proofs.CutLaws.{cut-more, cut-whole, cut-bad, cut-long, Kept, Divides, divides}
+use Rattle.h4_stream.specs.Feed.{in_hand, answered, outcome, given, cut_from, feeding, reached}
+use Rattle.h4_stream.proofs.CutLaws.{cut-more, cut-whole, cut-lost, Kept, divides}
 
 -- ---- the loop over packets: those found, and those still to be found
 
-abbrev reach : ℕ → ℕ → Lost → Reach
+abbrev reach : ℕ → ℕ → Option Lost → Reach
 reach packets len lost = record { packets = packets; len = len; lost = lost }
 
-ending : (p len : ℕ) (c : Cut) (rest : List ℕ) (l : Lost) → c ≡ ends rest l → reached p len c ≡ reach p len l
+ending : (p len : ℕ) (c : Cut) (rest : List ℕ) (l : Option Lost) → c ≡ ends rest l → reached p len c ≡ reach p len l
 unfolding joined
 ending p len c rest l e = rw (e, add-zero p, add-zero len)
 
 module _ (s : List ℕ) (p len : ℕ) where
-  pub ends_more : More ≡ front (drop len s) → reached p len (cut (drop len s)) ≡ reach p len No
-  ends_more e = ending p len (cut (drop len s)) (drop len s) No (cut-more (drop len s) e)
+  pub ends_more : Ok None ≡ front (drop len s) → reached p len (cut (drop len s)) ≡ reach p len None
+  ends_more e = ending p len (cut (drop len s)) (drop len s) None (cut-more (drop len s) e)
 
-  pub ends-bad : BadIndicator ≡ front (drop len s) → reached p len (cut (drop len s)) ≡ reach p len ByIndicator
-  ends-bad e = ending p len (cut (drop len s)) [] ByIndicator (cut-bad (drop len s) e)
+  pub ends_lost : (lost : Lost) → Err lost ≡ front (drop len s) → reached p len (cut (drop len s)) ≡ reach p len (Some lost)
+  ends_lost lost e = ending p len (cut (drop len s)) [] (Some lost) (cut-lost (drop len s) lost e)
 
-  pub ends-long : LongPacket ≡ front (drop len s) → reached p len (cut (drop len s)) ≡ reach p len ByLength
-  ends-long e = ending p len (cut (drop len s)) [] ByLength (cut-long (drop len s) e)
-
-  module _ (n : ℕ) (is : Whole n ≡ front (drop len s)) where
+  module _ (n : ℕ) (is : Ok (Some n) ≡ front (drop len s)) where
     pub packet : (0 < n) × (n ≤ length (drop len s))
     packet = let k = rw (← is) at (stable (drop len s)) in (k.0, k.1.0)
 
@@ -60,13 +56,11 @@ module _ (s : List ℕ) (p len : ℕ) where
         let b : len + (n + length (joined c.packets)) ≡ len + n + length (joined c.packets) = omega arith in
         rw (e, l, a, b)
 
--- a packet found ends within the bytes in hand
-pub packet-fits : (held : List ℕ) (count : ℕ) (fed : List ℕ) (total len n : ℕ) → count ≤ length held → total ≡ count + length fed → len ≤ total
-    → Whole n ≡ front (drop len (in_hand count held fed)) → (0 < n) × (len + n ≤ total)
-packet-fits held count fed total len n big sum low is =
-    let k = packet (in_hand count held fed) 0 len n is in
-    let l : length (drop len (in_hand count held fed)) ≡ total - len = simp (length-drop, length-hand held count fed big) (omega arith) in
-    (k.0, omega arith)
+    -- a packet found ends within the bytes in hand
+    pub packet-fits : len ≤ length s → (0 < n) × (len + n ≤ length s)
+    packet-fits low =
+        let l : length (drop len s) ≡ length s - len = length-drop len s in
+        (packet.0, omega (arith, packet.1))
 
 -- ---- what is taken in
 
@@ -95,57 +89,49 @@ found s r e =
     })
 
 -- what find_packets found in the bytes in hand
-module _ (held : List ℕ) (count : ℕ) (fed : List ℕ) (r : Reach) (big : count ≤ length held) (e : r ≡ reached 0 0 (cut (in_hand count held fed))) where
-  abbrev hand : List ℕ
-  hand = in_hand count held fed
+module _ (s : List ℕ) (r : Reach) (e : r ≡ reached 0 0 (cut s)) where
+  pub found_inside : r.len ≤ length s
+  found_inside = (found s r e).inside
 
-  pub found_inside : r.len ≤ count + length fed
-  found_inside = rw (length-hand held count fed big) at (found hand r e).inside
-
-  rest-is : r.lost ≡ No → (cut hand).rest ≡ drop r.len hand
-  rest-is whole = (rw whole at (found hand r e).kept).0
-
-  rest-long : length (drop r.len hand) ≡ count + length fed - r.len
-  rest-long = simp (length-drop, length-hand held count fed big)
+  rest-is : r.lost ≡ None → (cut s).rest ≡ drop r.len s
+  rest-is whole = (rw whole at (found s r e).kept).0
 
   -- the rest has a place among the bytes held
-  pub rest-fits : r.lost ≡ No → count + length fed - r.len < 1024
-  rest-fits whole = rw (rest-is whole, rest-long) at (rw whole at (found hand r e).kept).1
+  pub rest-fits : r.lost ≡ None → length s - r.len < 1024
+  rest-fits whole = simp (rest-is whole, length-drop) at (rw whole at (found s r e).kept).1
 
-  module _ (out out' : List ℕ) (eo : out' ≡ onto out (take r.len hand)) where
-    told : (rest : List ℕ) (n : ℕ) (held' : List ℕ) → (cut hand).rest ≡ rest → n ≡ length rest → held' ≡ onto held rest
-        → outcome (answered n r.lost r.packets r.len) held' out' ≡ given (cut hand) held out
+  module _ (held out out' : List ℕ) (eo : out' ≡ onto out (take r.len s)) where
+    told : (rest : List ℕ) (n : ℕ) (held' : List ℕ) → (cut s).rest ≡ rest → n ≡ length rest → held' ≡ onto held rest
+        → outcome (answered n r.lost r.packets r.len) held' out' ≡ given (cut s) held out
     told rest n held' er en eh =
-        let f = found hand r e in
+        let f = found s r e in
         rw (eh, en, eo, f.bytes, ← er, f.lost, f.number, f.sum)
 
     -- the rest is held
-    pub held_on : r.lost ≡ No → (held' : List ℕ) → held' ≡ onto held (drop r.len hand)
-        → (x : Fed) → x ≡ answered (count + length fed - r.len) r.lost r.packets r.len → outcome x held' out' ≡ given (cut hand) held out
-    held_on whole held' eh x ex = rw ex (told (drop r.len hand) (count + length fed - r.len) held' (rest-is whole) (sym rest-long) eh)
+    pub held_on : r.lost ≡ None → (total : ℕ) → total ≡ length s → (held' : List ℕ) → held' ≡ onto held (drop r.len s)
+        → (x : Fed) → x ≡ answered (total - r.len) r.lost r.packets r.len → outcome x held' out' ≡ given (cut s) held out
+    held_on whole total size held' eh x ex =
+        rw (ex, size) (told (drop r.len s) (length s - r.len) held' (rest-is whole) (sym (length-drop r.len s)) eh)
 
     -- framing is lost: nothing is held
-    dropped : (cut hand).rest ≡ [] → (x : Fed) → x ≡ answered 0 r.lost r.packets r.len → outcome x held out' ≡ given (cut hand) held out
-    dropped none x ex = rw ex (told [] 0 held none refl refl)
+    pub dropped : (lost : Lost) → r.lost ≡ Some lost → (x : Fed) → x ≡ answered 0 r.lost r.packets r.len → outcome x held out' ≡ given (cut s) held out
+    dropped lost is x ex = rw ex (told [] 0 held (rw is at (found s r e).kept) refl refl)
 
-    pub lost-by-indicator : r.lost ≡ ByIndicator → (x : Fed) → x ≡ answered 0 r.lost r.packets r.len
-        → outcome x held out' ≡ given (cut hand) held out
-    lost-by-indicator lost = dropped (rw lost at (found hand r e).kept)
-
-    pub lost-by-length : r.lost ≡ ByLength → (x : Fed) → x ≡ answered 0 r.lost r.packets r.len
-        → outcome x held out' ≡ given (cut hand) held out
-    lost-by-length lost = dropped (rw lost at (found hand r e).kept)
+-- a stream whose framing was lost before drops all
+still : (l : Option Lost) (lost : Lost) → l ≡ Some lost → (s held out : List ℕ) → outcome (answered 0 l 0 0) held out ≡ given (cut_from l s) held out
+unfolding joined
+still l lost is s held out = rw is
 
 -- ---- refusals
 
 module _ (stream : Stream) (held fed out : List ℕ) where
-  pub refused_over : longest < stream.count → (x : Fed) → x ≡ record { stream = stream; refusal = overheld; packets = 0; len = 0 }
+  pub refused_over : longest < stream.count → (x : Fed) → x ≡ record { stream = stream; refusal = Some Overheld; packets = 0; len = 0 }
       → outcome x held out ≡ feeding stream held fed out
   unfolding feeding
   refused_over h x e = rw (e, lt-ltb longest stream.count h)
 
   module _ (fits : stream.count ≤ longest) (x : Bool) (is : x ≡ leb (stream.count + length fed) (length out)) where
-    pub refused-short : x ≡ false → (r : Fed) → r ≡ record { stream = stream; refusal = short_output; packets = 0; len = 0 }
+    pub refused-short : x ≡ false → (r : Fed) → r ≡ record { stream = stream; refusal = Some ShortOutput; packets = 0; len = 0 }
         → outcome r held out ≡ feeding stream held fed out
     unfolding feeding
     refused-short h r e =
@@ -159,20 +145,11 @@ module _ (stream : Stream) (held fed out : List ℕ) where
     unfolding feeding
     accepted h = rw (le-ltb longest stream.count fits, le-ltb (length out) (stream.count + length fed) (room h))
 
-    pub taken : x ≡ true → stream.lost ≡ No → (r : Fed) (held' out' : List ℕ)
+    pub taken : x ≡ true → stream.lost ≡ None → (r : Fed) (held' out' : List ℕ)
         → outcome r held' out' ≡ given (cut (in_hand stream.count held fed)) held out → outcome r held' out' ≡ feeding stream held fed out
     taken h whole r held' out' e = e ∙ sym (accepted h ∙ rw whole)
 
     -- a stream that has lost its framing
-    lost-still : x ≡ true → cut_from stream.lost (in_hand stream.count held fed) ≡ ends [] stream.lost
-        → (r : Fed) → r ≡ answered 0 stream.lost 0 0 → outcome r held out ≡ feeding stream held fed out
-    unfolding joined
-    lost-still h none r e = rw e (sym (accepted h ∙ rw none))
-
-    pub still-by-indicator : x ≡ true → stream.lost ≡ ByIndicator → (r : Fed) → r ≡ answered 0 stream.lost 0 0
+    pub lost-still : x ≡ true → (lost : Lost) → stream.lost ≡ Some lost → (r : Fed) → r ≡ answered 0 stream.lost 0 0
         → outcome r held out ≡ feeding stream held fed out
-    still-by-indicator h lost = lost-still h (rw lost)
-
-    pub still-by-length : x ≡ true → stream.lost ≡ ByLength → (r : Fed) → r ≡ answered 0 stream.lost 0 0
-        → outcome r held out ≡ feeding stream held fed out
-    still-by-length h lost = lost-still h (rw lost)
+    lost-still h lost is r e = rw e (still stream.lost lost is (in_hand stream.count held fed) held out ∙ sym (accepted h))

@@ -1,74 +1,80 @@
--- The bytes in hand: how many they are, and each of them read where it stands.
-use Prim.Native.Nat.{ℕ, ◌+◌, ◌-◌, ◌≤◌, ◌<◌}
-use mathlib.Core.Path.{◌≡◌, refl, sym, ap, ◌∙◌}
-use mathlib.Core.List.{List, ◌++◌}
-use native.Mathlib.Omega.{arith}
-use lib.ListN.{length, take, drop, get_or, length-append, length-drop, get_or-append}
-use lib.Seq.{length-take-le, get_or-take, get_or-drop, get_or-append-add}
-use Rattle.h4_packets.specs.Packet.{header_size, payload_size}
-use Rattle.h4_packets.specs.Front.{front}
-use Rattle.h4_packets.specs.declared.Front.TheVariants.{More, Whole, BadIndicator, LongPacket}
-use Rattle.h4_packets.proofs.FrontLaws.{front-empty, front-bad, front-short, front_long, front-part, front-whole}
+-- The bytes in hand: their front, and what is behind it, in those held and in those fed; and what two copies leave, one behind the other.
+use Rattle.std.proofs.Common.{◌≡◌, refl, sym, ap, ◌∙◌, ℕ, ◌+◌, ◌-◌, ◌≤◌, ◌<◌, List, ◌++◌, length, take, drop, append_assoc, arith, length-append, length-drop}
+use Rattle.std.proofs.lemmas.List.{take_all, drop_all, take-append-le, drop-append-le, length-take-le, drop-drop}
+use Rattle.std.proofs.lemmas.Slice.{between_is}
+use Rattle.std.proofs.Math.Seq.{take-append-add, drop-append-add, take_at, drop_at}
+use mathlib.Core.List.{append-nil}
+use Prim.Native.Nat.{min}
+use mathlib.Core.Bool.{Bool, true, false}
+use lib.Dec.{leb}
+use borrow.Author.Tests.{leb-true, leb-false}
+use Rattle.lists.specs.Queue.{onto}
 use Rattle.h4_stream.specs.Feed.{in_hand}
 
-module _ (held : List ℕ) (count : ℕ) (fed : List ℕ) (big : count ≤ length held) where
-  size : length (take count held) ≡ count
-  size = length-take-le count held big
+by_order : (P : Type 0) (a b : ℕ) → (a ≤ b → P) → (b < a → P) → P
+by_order P a b below above = go (leb a b) refl
+  where
+    go : (x : Bool) → leb a b ≡ x → P
+    go true e = below (leb-true a b e)
+    go false e = above (leb-false a b e)
 
-  pub length-hand : length (in_hand count held fed) ≡ count + length fed
-  length-hand = simp (length-append, size)
+module _ (held fed : List ℕ) (len m : ℕ) (e : m ≡ min len (length held)) where
+  -- the first len bytes, m of them held
+  pub front-parts : take m held ++ take (len - m) fed ≡ take len (held ++ fed)
+  front-parts =
+      by_order (take m held ++ take (len - m) fed ≡ take len (held ++ fed)) len (length held)
+      (λ h.
+      let a : m ≡ len = omega arith in
+      let z : len - m ≡ 0 = omega arith in
+      rw (z, a, take-append-le len held fed h) (append-nil (take len held)))
+      (λ h.
+      let a : m ≡ length held = omega arith in
+      let k : length held + (len - length held) ≡ len = omega arith in
+      rw (a, take_all (length held) held (omega arith))
+      (sym (take-append-add held fed (len - length held)) ∙ ap (λ (n : ℕ). take n (held ++ fed)) k))
 
-  pub byte-held : (i : ℕ) → i < count → get_or held i 0 ≡ get_or (in_hand count held fed) i 0
-  byte-held i h = sym (get_or-append (take count held) fed 0 i (rw size h) ∙ get_or-take count held i 0 h)
+  -- the bytes from len on
+  pub rest-parts : drop m held ++ drop (len - m) fed ≡ drop len (held ++ fed)
+  rest-parts =
+      by_order (drop m held ++ drop (len - m) fed ≡ drop len (held ++ fed)) len (length held)
+      (λ h.
+      let a : m ≡ len = omega arith in
+      let z : len - m ≡ 0 = omega arith in
+      rw (z, a, drop-append-le len held fed h) refl)
+      (λ h.
+      let a : m ≡ length held = omega arith in
+      let k : length held + (len - length held) ≡ len = omega arith in
+      rw (a, drop_all (length held) held (omega arith))
+      (sym (drop-append-add held fed (len - length held)) ∙ ap (λ (n : ℕ). drop n (held ++ fed)) k))
 
-  pub byte-fed : (i : ℕ) → count ≤ i → get_or fed (i - count) 0 ≡ get_or (in_hand count held fed) i 0
-  byte-fed i h =
-      let e : length (take count held) + (i - count) ≡ i = rw size (omega arith) in
-      sym (ap (λ (k : ℕ). get_or (in_hand count held fed) k 0) (sym e) ∙ get_or-append-add (take count held) fed (i - count) 0)
+pub length-hand : (held : List ℕ) (count : ℕ) (fed : List ℕ) → count ≤ length held → length (in_hand count held fed) ≡ count + length fed
+length-hand held count fed big = simp (length-append, length-take-le count held big)
 
-  -- ---- what stands at the front of the bytes from index at on
+-- r is written behind p, which stands over the front of d
+pub behind : (d p r : List ℕ) (k n : ℕ) → length p ≡ k → length r ≡ n
+    → take k (p ++ drop k d) ++ (r ++ drop n (drop k (p ++ drop k d))) ≡ onto d (p ++ r)
+behind d p r k n ep er =
+    let l : length (p ++ r) ≡ k + n = simp length-append (omega arith) in
+    rw (take_at p (drop k d) k ep, drop_at p (drop k d) k ep, drop-drop n k d, l) (sym (append_assoc p r (drop (k + n) d)))
 
-  module _ (total at : ℕ) (sum : total ≡ count + length fed) (low : at ≤ total) where
-    abbrev here : List ℕ
-    here = drop at (in_hand count held fed)
+-- packets over the front of the output
+pub put_over : (held fed out : List ℕ) (len m : ℕ) → m ≡ min len (length held) → len ≤ length (held ++ fed) → (p r : List ℕ) → p ≡ take m held → r ≡ take (len - m) fed
+    → take m (p ++ drop m out) ++ (r ++ drop (len - m) (drop m (p ++ drop m out))) ≡ onto out (take len (held ++ fed))
+put_over held fed out len m e h p r ep er =
+    let n : length held + length fed ≡ length (held ++ fed) = sym (length-append held fed) in
+    let lp : length p ≡ m = rw ep (length-take-le m held (omega arith)) in
+    let lr : length r ≡ len - m = rw er (length-take-le (len - m) fed (omega arith)) in
+    behind out p r m (len - m) lp lr ∙ rw (ep, er, front-parts held fed len m e)
 
-    left : length here ≡ total - at
-    left = simp (length-drop, length-hand) (omega arith)
-
-    byte : (k : ℕ) → get_or (in_hand count held fed) (at + k) 0 ≡ get_or here k 0
-    byte k = sym (get_or-drop at (in_hand count held fed) k 0)
-
-    pub empty-at : total - at ≡ 0 → More ≡ front here
-    empty-at e = front-empty here (left ∙ e)
-
-    module _ (some : total - at ≡ 0 → ⊥) (i : ℕ) (is : i ≡ get_or (in_hand count held fed) at 0) (h : ℕ) (is-h : h ≡ header_size i) where
-      not-empty : length here ≡ 0 → ⊥
-      not-empty e = some (sym left ∙ e)
-
-      first : i ≡ get_or here 0 0
-      first = is ∙ ap (λ (k : ℕ). get_or (in_hand count held fed) k 0) (omega arith) ∙ byte 0
-
-      pub bad-at : h ≡ 0 → BadIndicator ≡ front here
-      bad-at e = front-bad here not-empty i first h is-h e
-
-      module _ (defined : h ≡ 0 → ⊥) where
-        pub short-at : total - at < h → More ≡ front here
-        short-at k = front-short here not-empty i first h is-h defined (rw left k)
-
-        module _ (there : h ≤ total - at) (before last : ℕ)
-            (is-before : before ≡ get_or (in_hand count held fed) (at + (h - 2)) 0) (is_last : last ≡ get_or (in_hand count held fed) (at + (h - 1)) 0)
-            (p : ℕ) (is-p : (p ≡ payload_size i before last) × (p < 65536)) where
-          header : h ≤ length here
-          header = rw left there
-
-          payload : p ≡ payload_size i (get_or here (h - 2) 0) (get_or here (h - 1) 0)
-          payload = rw (← byte (h - 2), ← byte (h - 1), ← is-before, ← is_last) is-p.0
-
-          pub long-at : 1024 < h + p → LongPacket ≡ front here
-          long-at k = front_long here not-empty i first h is-h defined header p payload k
-
-          pub part_at : h + p ≤ 1024 → total - at < h + p → More ≡ front here
-          part_at k q = front-part here not-empty i first h is-h defined header p payload k (rw left q)
-
-          pub whole-at : h + p ≤ 1024 → h + p ≤ total - at → Whole (h + p) ≡ front here
-          whole-at k q = front-whole here not-empty i first h is-h defined header p payload k (rw left q)
+-- what is left over the front of the bytes held: those that were held go down, those fed behind them
+pub kept_over : (held fed : List ℕ) (count len m : ℕ) → m ≡ min len count → count ≤ length held → (h r : List ℕ) (n : ℕ)
+    → h ≡ take (count - m) (drop m held) ++ drop (count - m) held → r ≡ take (length fed - (len - m)) (drop (len - m) fed) → n ≡ length r
+    → take (count - m) h ++ (r ++ drop n (drop (count - m) h)) ≡ onto held (drop len (take count held ++ fed))
+kept_over held fed count len m e big h r n eh er en =
+    let size : length (take count held) ≡ count = length-take-le count held big in
+    let g : m ≡ min len (length (take count held)) = rw size e in
+    let p = take (count - m) (drop m held) in
+    let lp : length p ≡ count - m = length-take-le (count - m) (drop m held) (simp length-drop (omega arith)) in
+    let all : take (length fed - (len - m)) (drop (len - m) fed) ≡ drop (len - m) fed = take_all (length fed - (len - m)) (drop (len - m) fed) (simp length-drop (omega arith)) in
+    let q : p ++ r ≡ drop len (take count held ++ fed) = rw (er, all, between_is held m count) (rest-parts (take count held) fed len m g) in
+    rw eh (behind held p r (count - m) n lp (sym en) ∙ ap (onto held) q)

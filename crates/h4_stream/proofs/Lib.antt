@@ -1,4 +1,3 @@
 pub mod CutLaws
 pub mod HandLaws
-pub mod WriteLaws
 pub mod FeedLaws

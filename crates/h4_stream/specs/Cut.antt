@@ -1,18 +1,15 @@
 -- Bytes of a stream cut into packets (02, Three): the whole packets from the front, then a rest that is no whole packet, or a place where framing is lost.
-use Rattle.std.specs.Prelude.{ℕ, zero, suc, List, [], ◌∷◌, ◌++◌, length, take, drop}
-use Rattle.h4_packets.specs.Front.{front}
-use Rattle.h4_packets.specs.declared.Front.{Front}
-use Rattle.h4_packets.specs.declared.Front.TheVariants.{More, Whole, BadIndicator, LongPacket}
-use Rattle.h4_stream.specs.declared.Lost.{Lost}
-use Rattle.h4_stream.specs.declared.Lost.TheVariants.{No, ByIndicator, ByLength}
+use Rattle.std.specs.Prelude.{ℕ, zero, suc, List, [], ◌∷◌, ◌++◌, length, take, drop, Option, None, Some, Ok, Err}
+use Rattle.h4_packets.specs.Front.{Front, front}
+use Rattle.h4_packets.specs.declared.Lost.{Lost}
 
 -- the packets, the bytes behind them that stay held, and whether framing is lost: then no byte is held
 pub record Cut : Type 0 where
   pub packets : List (List ℕ)
   pub rest : List ℕ
-  pub lost : Lost
+  pub lost : Option Lost
 
-abbrev pub ends : List ℕ → Lost → Cut
+abbrev pub ends : List ℕ → Option Lost → Cut
 ends rest lost = record { packets = []; rest = rest; lost = lost }
 
 -- one packet more in front
@@ -21,14 +18,13 @@ after packet c = record { packets = packet ∷ c.packets; rest = c.rest; lost = 
 
 -- by what stands at the front of s; `later` is what follows a packet of so many bytes
 abbrev pub cut_by : Front → List ℕ → (ℕ → Cut) → Cut
-cut_by More s later = ends s No
-cut_by (Whole n) s later = after (take n s) (later n)
-cut_by BadIndicator s later = ends [] ByIndicator
-cut_by LongPacket s later = ends [] ByLength
+cut_by (Ok None) s later = ends s None
+cut_by (Ok (Some n)) s later = after (take n s) (later n)
+cut_by (Err lost) s later = ends [] (Some lost)
 
 -- at most so many packets
 unfoldable pub cutting : ℕ → List ℕ → Cut
-cutting zero s = ends s No
+cutting zero s = ends s None
 cutting (suc n) s = cut_by (front s) s (λ k. cutting n (drop k s))
 
 -- never more packets than bytes

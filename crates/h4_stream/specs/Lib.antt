@@ -1,3 +1,4 @@
 pub mod Cut
 pub mod Feed
+pub mod Hand
 pub mod Samples

@@ -1,55 +1,51 @@
 // An H4 byte stream cut into whole packets, with the bytes of an unfinished one held between feeds: hci.rs, H4Stream; 02, Three.
 #![tactic(auto)]
 
-ghost use Rattle.std.specs.Prelude.{◌≡◌, ◌++◌, ◌+◌, ◌-◌, ◌≤◌, ◌<◌, length, get_or, take, drop};
+ghost use Rattle.std.specs.Prelude.{◌≡◌, Some, ◌++◌, ◌+◌, ◌-◌, ◌^◌, ◌≤◌, ◌<◌, length, get_or, take, drop};
 ghost use Rattle.lists.specs.Queue.{onto};
 ghost use Rattle.h4_packets.specs.Numbers.{longest};
 ghost use Rattle.h4_packets.specs.Front.{front};
 ghost use Rattle.h4_stream.specs.Cut.{cut};
-ghost use Rattle.h4_stream.specs.Feed.{fresh, in_hand, reached, refusal_of, answered, outcome, given, feeding};
+ghost use Rattle.h4_stream.specs.Feed.{fresh, in_hand, reached, answered, outcome, given, feeding};
 
-use h4_packets::{Front, refusal};
+use h4_packets::{Lost, Refusal};
 
-// How framing was lost, if it was.
-#[derive(Clone, Copy)]
-pub enum Lost {
-    No,
-    ByIndicator,
-    ByLength,
-}
-
-// The bytes held are the first `count` of the 1,024 that are lent beside it.
-#[derive(Clone, Copy)]
+// The bytes held are the first `count` of the 1,024 that are lent beside it; `lost` says how framing was lost, if it was.
+#[derive(Clone, Copy, PartialEq, Eq, Default)]
 pub struct Stream {
     pub count: usize,
-    pub lost: Lost,
+    pub lost: Option<Lost>,
 }
 
-// What a feed answers: how many packets are in the output, end to end, and in how many bytes. A refusal of 0 is none.
-#[derive(Clone, Copy)]
+// What a feed answers: how many packets are in the output, end to end, and in how many bytes.
+#[derive(Clone, Copy, PartialEq, Eq)]
 pub struct Fed {
     pub stream: Stream,
-    pub refusal: u8,
+    pub refusal: Option<Refusal>,
     pub packets: usize,
     pub len: usize,
 }
 
-// How far whole packets reach, and what comes behind them.
+// The bytes in hand: those held, then those fed.
+#[derive(Clone, Copy)]
+struct Hand<'a> {
+    held: &'a [u8],
+    fed: &'a [u8],
+}
+
+// How far whole packets reach, and how framing is lost behind them, if it is.
 #[derive(Clone, Copy)]
 struct Reach {
     packets: usize,
     len: usize,
-    lost: Lost,
+    lost: Option<Lost>,
 }
 
 impl Stream {
     pub fn new() -> Self
         ensures { result ≡ fresh }
     {
-        Self {
-            count: 0,
-            lost: Lost::No,
-        }
+        Self::default()
     }
 
     // Held bytes and a lost framing are forgotten.
@@ -66,100 +62,87 @@ impl Stream {
     }
 }
 
-// ---- bytes in hand: those held, then those fed
+impl<'a> Hand<'a> {
+    ghost use Rattle.h4_stream.specs.Hand.{bytes_of};
 
-fn byte_at(held: &[u8], count: usize, fed: &[u8], i: usize) -> u8
-    requires { (count ≤ length held.now) × (i < count + length fed.now) }
-    ensures { result ≡ get_or (in_hand count held.now fed.now) i 0 }
-{
-    if i < count {
-        return held[i];
+    fn len(self) -> usize
+        ensures { result ≡ length (bytes_of self.entry) }
+    {
+        self.held.len() + self.fed.len()
     }
-    fed[i - count]
-}
 
-// What stands at the front of the bytes from index at on.
-fn front_at(held: &[u8], count: usize, fed: &[u8], total: usize, at: usize) -> Front
-    requires { (count ≤ length held.now) × ((total ≡ count + length fed.now) × (at ≤ total)) }
-    ensures { result ≡ front (drop at (in_hand count held.now fed.now)) }
-{
-    let left = total - at;
-    if left == 0 {
-        return Front::More;
+    fn byte(self, i: usize) -> u8
+        requires { i < length (bytes_of self) }
+        ensures { result ≡ get_or (bytes_of self.entry) i 0 }
+    {
+        if i < self.held.len() {
+            self.held[i]
+        } else {
+            self.fed[i - self.held.len()]
+        }
     }
-    let indicator = byte_at(held, count, fed, at);
-    let header = h4_packets::header_size(indicator);
-    if header == 0 {
-        return Front::BadIndicator;
-    }
-    if left < header {
-        return Front::More;
-    }
-    let before = byte_at(held, count, fed, at + (header - 2));
-    let last = byte_at(held, count, fed, at + (header - 1));
-    let size = header + h4_packets::payload_size(indicator, before, last);
-    if h4_packets::LONGEST < size {
-        return Front::LongPacket;
-    }
-    if left < size {
-        return Front::More;
-    }
-    Front::Whole(size)
-}
 
-// How far the whole packets reach, and what ends them.
-fn find_packets(held: &[u8], count: usize, fed: &[u8], total: usize) -> Reach
-    requires { (count ≤ length held.now) × (total ≡ count + length fed.now) }
-    ensures { result ≡ reached 0 0 (cut (in_hand count held.now fed.now)) }
-{
-    let mut packets: usize = 0;
-    let mut len: usize = 0;
-    loop {
-        let front = front_at(held, count, fed, total, len);
-        match front {
-            Front::Whole(n) => {
-                len += n;
-                packets += 1;
+    // What stands at the front of the bytes from index at on: a whole packet's length, or None where more is needed.
+    fn front_at(self, at: usize) -> Result<Option<usize>, Lost>
+        requires { at ≤ length (bytes_of self) }
+        ensures { result ≡ front (drop at (bytes_of self.entry)) }
+    {
+        let left = self.len() - at;
+        let size = h4_packets::packet_len(left, |i| self.byte(at + i))?;
+        match size {
+            Some(n) if h4_packets::LONGEST < n => Err(Lost::ByLength),
+            Some(n) if n <= left => Ok(Some(n)),
+            _ => Ok(None),
+        }
+    }
+
+    // How far the whole packets reach, and what ends them.
+    fn find_packets(self) -> Reach
+        requires { length (bytes_of self) < 2 ^ 64 }
+        ensures { result ≡ reached 0 0 (cut (bytes_of self.entry)) }
+    {
+        let mut packets: usize = 0;
+        let mut len: usize = 0;
+        // Kept: a loop, since the step is each packet's length; no `for` or iterator has it beforehand.
+        loop {
+            match self.front_at(len) {
+                Ok(Some(n)) => {
+                    len += n;
+                    packets += 1;
+                }
+                Ok(None) => {
+                    return Reach {
+                        packets,
+                        len,
+                        lost: None,
+                    };
+                }
+                Err(lost) => {
+                    return Reach {
+                        packets,
+                        len,
+                        lost: Some(lost),
+                    };
+                }
             }
-            Front::More => {
-                return Reach {
-                    packets,
-                    len,
-                    lost: Lost::No,
-                };
-            }
-            Front::BadIndicator => {
-                return Reach {
-                    packets,
-                    len,
-                    lost: Lost::ByIndicator,
-                };
-            }
-            Front::LongPacket => {
-                return Reach {
-                    packets,
-                    len,
-                    lost: Lost::ByLength,
-                };
-            }
+        }
+    }
+
+    // The first len bytes go to the front of the output. Where no packet is found, nothing is copied: a feed of one byte must not cost two empty copies.
+    fn put(self, out: &mut [u8], len: usize)
+        requires inside { len ≤ length (bytes_of self) }
+        requires room { length (bytes_of self) ≤ length out.old }
+        ensures { out.new ≡ onto out.old (take len (bytes_of self.entry)) }
+    {
+        if 0 < len {
+            let held = len.min(self.held.len());
+            out[..held].copy_from_slice(&self.held[..held]);
+            out[held..len].copy_from_slice(&self.fed[..len - held]);
         }
     }
 }
 
-// ---- bytes written
-
-// The first len bytes in hand go to the front of the output.
-fn put_packets(held: &[u8], count: usize, fed: &[u8], out: &mut [u8], len: usize)
-    requires { (count ≤ length held.now) × ((len ≤ count + length fed.now) × (count + length fed.now ≤ length out.old)) }
-    ensures { out.new ≡ onto out.old (take len (in_hand count held.now fed.now)) }
-{
-    if len <= count {
-        bytes_copies::copy_in(out, 0, held, 0, len);
-    } else {
-        bytes_copies::copy_in(out, 0, held, 0, count);
-        bytes_copies::copy_in(out, count, fed, 0, len - count);
-    }
-}
+// ---- bytes held
 
 // The n bytes held from index from on go to the front. Where they stand there, nothing is copied: a feed of one byte must not cost all that is held.
 fn lower(held: &mut [u8], from: usize, n: usize)
@@ -167,45 +150,40 @@ fn lower(held: &mut [u8], from: usize, n: usize)
     ensures { held.new ≡ take n (drop from held.old) ++ drop n held.old }
 {
     if 0 < from {
-        bytes_copies::copy_within(held, 0, from, n);
+        held.copy_within(from..from + n, 0);
     }
 }
 
-// The bytes in hand from index len on, of which there are `rest`, go to the front of those held.
-fn keep_rest(held: &mut [u8], count: usize, fed: &[u8], len: usize, rest: usize)
-    requires { (count ≤ length held.old) × ((len + rest ≡ count + length fed.now) × (rest ≤ length held.old)) }
+// The bytes in hand from index len on go to the front of those held.
+fn keep_rest(held: &mut [u8], count: usize, fed: &[u8], len: usize)
+    requires inside { count ≤ length held.old }
+    requires len_inside { len ≤ count + length fed.now }
+    requires room { count + length fed.now ≤ len + length held.old }
     ensures { held.new ≡ onto held.old (drop len (in_hand count held.old fed.now)) }
 {
-    if count <= len {
-        bytes_copies::copy_in(held, 0, fed, len - count, rest);
-    } else {
-        let kept = count - len;
-        lower(held, len, kept);
-        bytes_copies::copy_in(held, kept, fed, 0, fed.len());
-    }
+    let gone = len.min(count);
+    let kept = count - gone;
+    lower(held, gone, kept);
+    let rest = &fed[len - gone..];
+    held[kept..kept + rest.len()].copy_from_slice(rest);
 }
 
 // ---- the feed
 
-fn refusal_of(lost: Lost) -> u8
-    ensures { result ≡ refusal_of lost }
-{
-    match lost {
-        Lost::No => refusal::ACCEPTED,
-        Lost::ByIndicator => refusal::BAD_INDICATOR,
-        Lost::ByLength => refusal::LONG_PACKET,
-    }
-}
-
-// So many bytes are held from now on, and so many packets went out.
-fn answer_with(count: usize, lost: Lost, packets: usize, len: usize) -> Fed
-    ensures { result ≡ answered count lost packets len }
-{
-    Fed {
-        stream: Stream { count, lost },
-        refusal: refusal_of(lost),
-        packets,
-        len,
+impl Reach {
+    // So many bytes are held from now on.
+    fn answer(self, count: usize) -> Fed
+        ensures { result ≡ answered count self.lost self.packets self.len }
+    {
+        Fed {
+            stream: Stream {
+                count,
+                lost: self.lost,
+            },
+            refusal: self.lost.map(Refusal::from),
+            packets: self.packets,
+            len: self.len,
+        }
     }
 }
 
@@ -215,29 +193,28 @@ fn take_in(count: usize, held: &mut [u8], fed: &[u8], out: &mut [u8]) -> Fed
     ensures { outcome result held.new out.new
         ≡ given (cut (in_hand count held.old fed.now)) held.old out.old }
 {
-    let total = count + fed.len();
-    let found = find_packets(held, count, fed, total);
-    let len = found.len;
-    let packets = found.packets;
-    let lost = found.lost;
-    put_packets(held, count, fed, out, len);
-    match lost {
-        Lost::No => {
-            let rest = total - len;
-            keep_rest(held, count, fed, len, rest);
-            answer_with(rest, lost, packets, len)
+    let hand = Hand {
+        held: &held[..count],
+        fed,
+    };
+    let total = hand.len();
+    let found = hand.find_packets();
+    hand.put(out, found.len);
+    match found.lost {
+        None => {
+            keep_rest(held, count, fed, found.len);
+            found.answer(total - found.len)
         }
-        Lost::ByIndicator => answer_with(0, lost, packets, len),
-        Lost::ByLength => answer_with(0, lost, packets, len),
+        Some(_) => found.answer(0),
     }
 }
 
-fn refuse(stream: Stream, why: u8) -> Fed
-    ensures { result ≡ record { stream = stream; refusal = why; packets = 0; len = 0 } }
+fn refuse(stream: Stream, why: Refusal) -> Fed
+    ensures { result ≡ record { stream = stream; refusal = Some why; packets = 0; len = 0 } }
 {
     Fed {
         stream,
-        refusal: why,
+        refusal: Some(why),
         packets: 0,
         len: 0,
     }
@@ -249,15 +226,18 @@ pub fn feed(stream: Stream, held: &mut [u8; 1024], fed: &[u8], out: &mut [u8]) -
 {
     let count = stream.count;
     if h4_packets::LONGEST < count {
-        return refuse(stream, refusal::OVERHELD);
+        return refuse(stream, Refusal::Overheld);
     }
     if !bytes_bounds::is_inside(out.len(), count, fed.len()) {
-        return refuse(stream, refusal::SHORT_OUTPUT);
+        return refuse(stream, Refusal::ShortOutput);
     }
-    let lost = stream.lost;
-    match lost {
-        Lost::No => take_in(count, held, fed, out),
-        Lost::ByIndicator => answer_with(0, lost, 0, 0),
-        Lost::ByLength => answer_with(0, lost, 0, 0),
+    let nothing = Reach {
+        packets: 0,
+        len: 0,
+        lost: stream.lost,
+    };
+    match stream.lost {
+        None => take_in(count, held, fed, out),
+        Some(_) => nothing.answer(0),
     }
 }

@@ -9,7 +9,8 @@ use lib.Dec.{ltb}
 use Rattle.bytes_base.specs.Choice.{pick}
 use Rattle.bytes_base.proofs.TestLaws.{both}
 use Rattle.lists.specs.Queue.{onto}
-use Rattle.h4_packets.specs.Numbers.{overheld, short_output, longest}
+use Rattle.h4_packets.specs.Numbers.{longest}
+use Rattle.h4_packets.specs.declared.Refusal.TheVariants.{Overheld, ShortOutput}
 use Rattle.h4_stream.specs.declared.Stream.{Stream}
 use Rattle.h4_stream.specs.Cut.{Cut, joined}
 use Rattle.h4_stream.specs.Feed.{in_hand, refusal_of, Outcome, refused, given, cut_from, feeding}
@@ -44,11 +45,11 @@ taken_is stream held s out t = go (ltb longest stream.count) (ltb (length out) (
   where
     go : (x y : Bool)
         → is_taken
-        (pick x (refused stream held out overheld)
-        (pick y (refused stream held out short_output) (given (cut_from stream.lost (in_hand stream.count held s)) held out)))
+        (pick x (refused stream held out Overheld)
+        (pick y (refused stream held out ShortOutput) (given (cut_from stream.lost (in_hand stream.count held s)) held out)))
         ≡ true
-        → pick x (refused stream held out overheld)
-        (pick y (refused stream held out short_output) (given (cut_from stream.lost (in_hand stream.count held s)) held out))
+        → pick x (refused stream held out Overheld)
+        (pick y (refused stream held out ShortOutput) (given (cut_from stream.lost (in_hand stream.count held s)) held out))
         ≡ given (cut_from stream.lost (in_hand stream.count held s)) held out
     go true y z = absurd (false≢true z)
     go false true z = absurd (false≢true z)

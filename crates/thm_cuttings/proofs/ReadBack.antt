@@ -5,17 +5,15 @@ use mathlib.Core.List.{List, [], ◌∷◌, ◌++◌}
 use native.Mathlib.Omega.{arith}
 use lib.ListN.{length, take, drop, length-drop}
 use lib.Seq.{length-take-le, take_at, drop_at}
-use Rattle.h4_packets.specs.Front.{front}
-use Rattle.h4_packets.specs.declared.Front.{Front}
-use Rattle.h4_packets.specs.declared.Front.TheVariants.{More, Whole, BadIndicator, LongPacket}
+use Rattle.std.specs.Prelude.{None, Some, Ok, Err}
+use Rattle.h4_packets.specs.Front.{Front, front}
 use Rattle.h4_packets.proofs.FrontLaws.{front-empty, Stable, stable}
-use Rattle.h4_stream.specs.declared.Lost.TheVariants.{No}
 use Rattle.h4_stream.specs.Cut.{Cut, ends, cut, joined}
-use Rattle.h4_stream.proofs.CutLaws.{cut-more, cut-whole, cut-bad, cut-long}
+use Rattle.h4_stream.proofs.CutLaws.{cut-more, cut-whole, cut-lost}
 use Rattle.thm_cuttings.specs.Feeds.{ReadBack}
 
 abbrev only : List (List ℕ) → Cut
-only ps = record { packets = ps; rest = []; lost = No }
+only ps = record { packets = ps; rest = []; lost = None }
 
 nothing : cut [] ≡ only []
 nothing = cut-more [] (front-empty [] refl)
@@ -24,15 +22,14 @@ step : (s : List ℕ) (f : Front) → f ≡ front s → Stable s f
     → ((n : ℕ) → 0 < n → cut (joined (cut (drop n s)).packets) ≡ only (cut (drop n s)).packets)
     → cut (joined (cut s).packets) ≡ only (cut s).packets
 unfolding joined
-step s More e k ih = rw (cut-more s e) nothing
-step s (Whole n) e k ih =
+step s (Ok None) e k ih = rw (cut-more s e) nothing
+step s (Ok (Some n)) e k ih =
     let u = take n s in
     let j = joined (cut (drop n s)).packets in
     let l : length u ≡ n = length-take-le n s k.1.0 in
-    let w : Whole n ≡ front (u ++ j) = (rw (← k.1.1.1) at (stable u)).1.1.0 j in
+    let w : Ok (Some n) ≡ front (u ++ j) = (rw (← k.1.1.1) at (stable u)).1.1.0 j in
     rw (cut-whole s n e, cut-whole (u ++ j) n w, take_at u j n l, drop_at u j n l, ih n k.0)
-step s BadIndicator e k ih = rw (cut-bad s e) nothing
-step s LongPacket e k ih = rw (cut-long s e) nothing
+step s (Err lost) e k ih = rw (cut-lost s lost e) nothing
 
 within : (f : ℕ) (s : List ℕ) → length s ≤ f → cut (joined (cut s).packets) ≡ only (cut s).packets
 unfolding joined

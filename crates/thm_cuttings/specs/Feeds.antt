@@ -1,9 +1,10 @@
 -- The same bytes cut into feeds otherwise give the same packets, the same held bytes and the same refusal (02, Three).
 -- It is said of `feeding`, which the contract of h4_stream's `feed` equals: so it holds of every list of calls of `feed` that hand on stream and held bytes.
-use Rattle.std.specs.Prelude.{ℕ, ◌+◌, ◌≡◌, Bool, true, ◌&&◌, not, List, [], ◌∷◌, ◌++◌, take}
+use Rattle.std.specs.Prelude.{ℕ, ◌+◌, ◌≡◌, Bool, true, ◌&&◌, not, List, [], ◌∷◌, ◌++◌, take, Option, None}
 use Rattle.bytes_base.specs.Choice.{within}
 use Rattle.h4_stream.specs.declared.Stream.{Stream}
-use Rattle.h4_stream.specs.declared.Lost.TheVariants.{No}
+use Rattle.h4_packets.specs.Names.{told_number}
+use Rattle.h4_packets.specs.declared.Refusal.{Refusal}
 use Rattle.h4_stream.specs.Cut.{cut, joined}
 use Rattle.h4_stream.specs.Feed.{Outcome, feeding}
 
@@ -22,7 +23,7 @@ pub record Result : Type 0 where
   pub bytes : List ℕ
   pub stream : Stream
   pub held : List ℕ
-  pub refusal : ℕ
+  pub refusal : Option Refusal
 
 abbrev pub result : Outcome → Result
 result o =
@@ -52,7 +53,7 @@ all_bytes f (g ∷ more) = f.bytes ++ all_bytes g more
 
 -- neither 1 nor 2 refuses it
 abbrev pub is_taken : Outcome → Bool
-is_taken o = not (within 1 2 o.answer.refusal)
+is_taken o = not (within 1 2 (told_number o.answer.refusal))
 
 -- nor any of several
 unfoldable pub are_taken : Stream → List ℕ → Feed → List Feed → Bool
@@ -69,4 +70,4 @@ Cuttings =
 
 -- the packets of a cut, written end to end, read back as themselves: equal bytes are equal packets
 abbrev pub ReadBack : Type 0
-ReadBack = (s : List ℕ) → cut (joined (cut s).packets) ≡ record { packets = (cut s).packets; rest = []; lost = No }
+ReadBack = (s : List ℕ) → cut (joined (cut s).packets) ≡ record { packets = (cut s).packets; rest = []; lost = None }

@@ -1,9 +1,10 @@
 -- The theorem on cuttings is not empty: lists of feeds, cut inside headers, and what they come to. Each is computed from the definitions.
-use Rattle.std.specs.Prelude.{ℕ, ◌≡◌, refl, true, List, [], ◌∷◌, ◌++◌, replicate}
+use Rattle.std.specs.Prelude.{ℕ, ◌≡◌, refl, true, List, [], ◌∷◌, ◌++◌, replicate, None, Some}
 use Rattle.bytes_base.specs.Bytes.{le, le_at}
 use Rattle.h4_packets.specs.Packet.{length_by, packet_length}
 use Rattle.h4_packets.specs.Front.{front}
-use Rattle.h4_stream.specs.declared.Lost.TheVariants.{No, ByIndicator}
+use Rattle.h4_packets.specs.declared.Lost.TheVariants.{ByIndicator}
+use Rattle.h4_packets.specs.declared.Refusal.TheVariants.{BadIndicator}
 use Rattle.h4_stream.specs.declared.Stream.{Stream}
 use Rattle.h4_stream.specs.Cut.{cutting, joined}
 use Rattle.h4_stream.specs.Feed.{fresh, feeding}
@@ -31,7 +32,7 @@ abbrev others : List Feed
 others = lent (0x0E ∷ 0x01 ∷ []) ∷ lent (0x07 ∷ 0x02 ∷ 0x40 ∷ 0x20 ∷ 0x02 ∷ []) ∷ lent (0x00 ∷ 0xAA ∷ 0xBB ∷ []) ∷ []
 
 abbrev both : Result
-both = record { packets = 2; bytes = event ++ acl; stream = fresh; held = []; refusal = 0 }
+both = record { packets = 2; bytes = event ++ acl; stream = fresh; held = []; refusal = None }
 
 pub record Pieces : Type 0 where
   pub taken : are_taken fresh blank first others ≡ true
@@ -45,10 +46,10 @@ pieces = record { taken = refl; all = refl; in_pieces = refl; at_once = refl }
 
 -- from a stream that holds half an event: it is completed, an indicator behind it is bad, and the feed after that is dropped
 abbrev half : Stream
-half = record { count = 2; lost = No }
+half = record { count = 2; lost = None }
 
 abbrev ended : Result
-ended = record { packets = 1; bytes = event; stream = record { count = 0; lost = ByIndicator }; held = []; refusal = 9 }
+ended = record { packets = 1; bytes = event; stream = record { count = 0; lost = Some ByIndicator }; held = []; refusal = Some BadIndicator }
 
 pub record Lost-on-the-way : Type 0 where
   pub in_pieces : feeds half (event ++ blank) (lent (0x01 ∷ 0x07 ∷ 0x09 ∷ [])) (lent event ∷ []) ≡ ended

@@ -3,6 +3,7 @@ use Rattle.std.specs.Prelude.{ℕ, ◌≡◌, refl, Bool, true, not, List, [], �
 use Rattle.std.proofs.Common.{ap, arith}
 use Rattle.bytes_base.specs.Choice.{within}
 use Rattle.bytes_base.specs.Bytes.{le, le_at}
+use Rattle.h4_packets.specs.Names.{told_number}
 use Rattle.h4_packets.specs.Packet.{length_by, packet_length}
 use Rattle.h4_packets.specs.Front.{front}
 use Rattle.h4_stream.specs.declared.Stream.{Stream}
@@ -22,10 +23,10 @@ once stream held f g out = feeding stream held (f.bytes ++ g.bytes) out
 -- an event's first byte with no room for it, and then the rest of the event: its code is read as an indicator
 pub refused-by-2-and-forgotten :
     ((stream : Stream) (held : List ℕ) (f g : Feed) (out : List ℕ)
-    → not (within 1 1 (fed stream held f).answer.refusal) ≡ true
-    → not (within 1 1 (second stream held f g).answer.refusal) ≡ true
-    → not (within 1 1 (once stream held f g out).answer.refusal) ≡ true
-    → (second stream held f g).answer.refusal ≡ (once stream held f g out).answer.refusal)
+    → not (within 1 1 (told_number (fed stream held f).answer.refusal)) ≡ true
+    → not (within 1 1 (told_number (second stream held f g).answer.refusal)) ≡ true
+    → not (within 1 1 (told_number (once stream held f g out).answer.refusal)) ≡ true
+    → told_number (second stream held f g).answer.refusal ≡ told_number (once stream held f g out).answer.refusal)
     → ⊥
 unfolding feeding cutting joined front packet_length length_by le_at le
 refused-by-2-and-forgotten p =
@@ -53,7 +54,7 @@ pub refusal-of-the-first-feed :
     → is_taken (fed stream held f) ≡ true
     → is_taken (second stream held f g) ≡ true
     → is_taken (once stream held f g out) ≡ true
-    → (fed stream held f).answer.refusal ≡ (once stream held f g out).answer.refusal)
+    → told_number (fed stream held f).answer.refusal ≡ told_number (once stream held f g out).answer.refusal)
     → ⊥
 unfolding feeding cutting joined front packet_length length_by le_at le
 refusal-of-the-first-feed p =

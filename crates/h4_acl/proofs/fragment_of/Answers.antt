@@ -1,11 +1,11 @@
-use Rattle.h4_acl.proofs.FragmentLaws.{other-handle, same-handle, no-packet}
+use mathlib.Core.Path.{◌∙◌}
+use Rattle.h4_acl.proofs.FragmentLaws.{same-handle, no-fragment}
 use Rattle.h4_acl.proofs.fragment_of.Goals as goal
 
-pub returns-then-handle-connected : goal.returns-then-handle-connected
-returns-then-handle-connected c = other-handle c.args.packet.now c.args.connected _ _ _ _ c.in-Acl.ensures c.if-handle-connected.true
+pub returns-in_err-begins : goal.returns-in_err-begins
+returns-in_err-begins c =
+    c.from_residual-in_err-begins.ensures
+    ∙ no-fragment c.args.packet.now c.args.connected _ c.in_ok-acl.ensures c.if-acl-connected.false c.in_err-begins.ensures
 
-pub returns-else-handle-connected : goal.returns-else-handle-connected
-returns-else-handle-connected c = same-handle c.args.packet.now c.args.connected _ _ _ _ _ c.in-Acl.ensures c.if-handle-connected.false c.by_flag.ensures
-
-pub returns-in-Nothing : goal.returns-in-Nothing
-returns-in-Nothing c = no-packet c.args.packet.now c.args.connected c.in-Nothing.ensures
+pub returns : goal.returns
+returns c = same-handle c.args.packet.now c.args.connected _ c.in_ok-acl.ensures c.if-acl-connected.false _ c.in_ok-begins.ensures

@@ -1,4 +1,0 @@
-use Rattle.h4_stream.proofs.answer_with.Goals as goal
-
-pub returns : goal.returns
-returns c = rw c.refusal_of.ensures
