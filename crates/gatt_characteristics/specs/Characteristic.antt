@@ -11,7 +11,7 @@ use Rattle.lists.specs.First.{first}
 use Rattle.lists.specs.Taken.{Have, taken}
 use Rattle.gatt_characteristics.specs.declared.Characteristic.{Characteristic}
 use Rattle.gatt_characteristics.specs.declared.Characteristics.{Characteristics}
-use Rattle.gatt_characteristics.specs.declared.Found.{Found}
+use Rattle.lists.specs.declared.Found.{Found}
 
 -- ---- a table and its list
 
@@ -96,11 +96,11 @@ abbrev pub more : List Characteristic → List ℕ → List Characteristic
 more l e = with-one l (told e)
 
 -- by what the entries leave
-abbrev pub found_by : Characteristics → Have Characteristic → Found
+abbrev pub found_by : Characteristics → Have Characteristic → Found Characteristics
 found_by t h = record { table = holding t h.list; last = h.last; full = h.full }
 
 -- the table after the entries of an answer, with the declaration of the last entry read, or none
-abbrev pub characteristics_taken : Characteristics → ℕ → List (List ℕ) → Found
+abbrev pub characteristics_taken : Characteristics → ℕ → List (List ℕ) → Found Characteristics
 characteristics_taken t none es = found_by t (taken more declaration_of most_characteristics (known t) none es)
 
 -- ---- the search

@@ -6,6 +6,7 @@ ghost use Rattle.state_places.specs.Sizes.{most_characteristics};
 ghost use Rattle.lists.specs.Cut.{entries, part};
 ghost use Rattle.gatt_characteristics.specs.Characteristic.{known, Rising, place, told, characteristics_taken};
 
+use lists::Found;
 use state_places::MAX_CHARACTERISTICS;
 use uuid_value::Uuid;
 
@@ -24,14 +25,6 @@ pub struct Characteristic {
 pub struct Characteristics {
     pub kept: [Characteristic; 64],
     pub count: usize,
-}
-
-// The table after an answer, the declaration of the last entry read, and whether an entry had no place.
-#[derive(Clone, Copy)]
-pub struct Found {
-    pub table: Characteristics,
-    pub last: u16,
-    pub full: bool,
 }
 
 // An entry is the handle of a declaration, the properties, the value handle and a UUID.
@@ -61,7 +54,7 @@ fn told(entry: &[u8]) -> Option<Characteristic>
 }
 
 // How many of the known characteristics, which rise by declaration, are declared below declaration.
-fn place_of(known: &[Characteristic], declaration: u16) -> usize
+fn declared_below(known: &[Characteristic], declaration: u16) -> usize
     requires { Rising known.now }
     ensures place { result ≡ place declaration known.now }
     ensures bound { result ≤ length known.now }
@@ -77,7 +70,7 @@ pub fn take_characteristics(
     end: usize,
     len: usize,
     none: u16,
-) -> Found
+) -> Found<Characteristics>
     requires { (t.count ≤ most_characteristics) × Rising (known t) × (5 ≤ len) × (from ≤ end) × (end ≤ length s.now) }
     ensures { result ≡ characteristics_taken t none (entries len (part from end s.now)) }
 {
@@ -86,7 +79,7 @@ pub fn take_characteristics(
     let mut last = none;
     for entry in s[from..end].chunks_exact(len) {
         if let Some(c) = told(entry) {
-            let p = place_of(&kept[..count], c.declaration);
+            let p = declared_below(&kept[..count], c.declaration);
             if p < count && kept[p].declaration == c.declaration {
                 kept[p] = c;
             } else {

@@ -11,7 +11,7 @@ use Rattle.lists.specs.First.{first}
 use Rattle.lists.specs.Taken.{Have, taken}
 use Rattle.gatt_services.specs.declared.Service.{Service}
 use Rattle.gatt_services.specs.declared.Services.{Services}
-use Rattle.gatt_services.specs.declared.Found.{Found}
+use Rattle.lists.specs.declared.Found.{Found}
 
 -- ---- a table and its list
 
@@ -64,11 +64,11 @@ abbrev pub more : List Service → List ℕ → List Service
 more l e = with-one l (told e)
 
 -- by what the entries leave
-abbrev pub found_by : Services → Have Service → Found
+abbrev pub found_by : Services → Have Service → Found Services
 found_by t h = record { table = holding t h.list; last = h.last; full = h.full }
 
 -- the table after the entries of an answer, with the end handle of the last entry read
-abbrev pub services_taken : Services → List (List ℕ) → Found
+abbrev pub services_taken : Services → List (List ℕ) → Found Services
 services_taken t es = found_by t (taken more end_of most_services (known t) last_handle es)
 
 -- ---- the search

@@ -6,6 +6,7 @@ ghost use Rattle.state_places.specs.Sizes.{most_services};
 ghost use Rattle.lists.specs.Cut.{entries, part};
 ghost use Rattle.gatt_services.specs.Service.{told, listed, services_taken};
 
+use lists::Found;
 use state_places::MAX_SERVICES;
 use uuid_value::Uuid;
 
@@ -21,14 +22,6 @@ pub struct Service {
 pub struct Services {
     pub kept: [Service; 32],
     pub count: usize,
-}
-
-// The table after an answer, the end handle of the last entry read, and whether an entry had no place.
-#[derive(Clone, Copy)]
-pub struct Found {
-    pub table: Services,
-    pub last: u16,
-    pub full: bool,
 }
 
 // An entry is a start handle, an end handle and a UUID.
@@ -56,7 +49,7 @@ fn is_listed(known: &[Service], start: u16) -> bool
 }
 
 // The table after the entries of len bytes that stand in s from index from to index end. An entry with a known start is skipped.
-pub fn take_services(t: Services, s: &[u8], from: usize, end: usize, len: usize) -> Found
+pub fn take_services(t: Services, s: &[u8], from: usize, end: usize, len: usize) -> Found<Services>
     requires { (t.count ≤ most_services) × (4 ≤ len) × (from ≤ end) × (end ≤ length s.now) }
     ensures { result ≡ services_taken t (entries len (part from end s.now)) }
 {

@@ -50,14 +50,8 @@ pub fn after_range(c: Core, tables: &[u64; 1152], svc: Service) -> u32
         svc.end,
         running.cursor,
     ) {
-        None => {
-            let end = svc.end as u32;
-            end + 1
-        }
-        Some((_, to)) => {
-            let end = to as u32;
-            end + 1
-        }
+        None => svc.end as u32 + 1,
+        Some((_, to)) => to as u32 + 1,
     }
 }
 

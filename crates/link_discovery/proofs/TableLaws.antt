@@ -6,9 +6,8 @@ use mathlib.Core.Bool.{Bool}
 use mathlib.Core.List.{List}
 use Rattle.time.specs.declared.Micros.{Micros}
 use Rattle.gatt_services.specs.declared.Service.{Service}
-use Rattle.gatt_services.specs.declared.Found as services-found
+use Rattle.lists.specs.declared.Found.{Found}
 use Rattle.gatt_characteristics.specs.declared.Characteristics.{Characteristics}
-use Rattle.gatt_characteristics.specs.declared.Found as characteristics-found
 use Rattle.lists.specs.Cut.{entries, part}
 use Rattle.gatt_descriptors.specs.declared.Named.{Named}
 use Rattle.gatt_descriptors.proofs.Keeps.{named_count}
@@ -33,6 +32,7 @@ use Rattle.state_core.specs.declared.Turn.{Turn}
 use Rattle.state_core.specs.Reading as core
 use Rattle.state_core.specs.Reading.{central_of, central, world}
 use Rattle.link_discovery.specs.Entered.{services_entered, characteristics_entered}
+use Rattle.gatt_services.specs.declared.Services.{Services}
 
 -- where the entries of an answer begin
 abbrev entries_at : ℕ
@@ -47,7 +47,7 @@ with-services t k =
     record { core = core.with_counts t.core m; sent = t.sent }
 
 module _ (t : Turn) (w w' s o : List ℕ) (end size k last : ℕ) (full : Bool) where
-  abbrev services-read : services-found.Found
+  abbrev services-read : Found Services
   services-read = service-words.taken_in w t.core.counts.services s entries_at end size
 
   module _ (e : (tables w' ≡ with_services (tables w) services-read.table.kept) × (k ≡ services-read.table.count)
@@ -101,7 +101,7 @@ characteristics-are t w w' s o k x e f =
     ∙ ap (λ (n : ℕ). holds t w s o (record { kept = x.kept; count = n })) f
 
 module _ (t : Turn) (w w' s o : List ℕ) (end size k last : ℕ) (full : Bool) (svc : Service) where
-  abbrev characteristics-read : characteristics-found.Found
+  abbrev characteristics-read : Found Characteristics
   characteristics-read = taken_in w t.core.counts.characteristics s entries_at end size svc.end
 
   module _ (e : (tables w' ≡ with_characteristics (tables w) characteristics-read.table.kept) × (k ≡ characteristics-read.table.count)

@@ -1,6 +1,9 @@
 // Discovery's answers: services, then the characteristics of a service, then their descriptors.
 #![tactic(auto)]
 
+// Kept: the walks of services and of characteristics are two and not one generic function: another handle ends each, another phase follows,
+// and each has definitions of its own (services_found, characteristics_found) that the theorems name, so a trait would need a method a line.
+
 ghost use Rattle.std.specs.Prelude.{◌≡◌, ◌≤◌, Some};
 ghost use Rattle.link_rules.specs.Payload.{payload_size};
 ghost use Rattle.link_rules.specs.Able.{Able};

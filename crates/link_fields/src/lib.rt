@@ -1,9 +1,8 @@
 // What an answer says by itself: whether it counts, the MTU of both sides, where its entries stand and how long they are.
 #![tactic(auto)]
 
-ghost use Rattle.std.specs.Prelude.{◌≡◌, ◌+◌, ◌-◌, ◌≤◌, max, length};
+ghost use Rattle.std.specs.Prelude.{◌≡◌, ◌+◌, ◌-◌, ◌≤◌, length};
 ghost use Rattle.lists.specs.Blocks.{bytes};
-ghost use Rattle.state_rules.specs.Steps.{default_mtu};
 ghost use Rattle.link_rules.specs.Payload.{payload_at, payload_size};
 ghost use Rattle.link_rules.specs.Answers.{counts, smaller_mtu, width_of};
 
@@ -32,23 +31,11 @@ pub fn counts(pending: u8, store: &[u8], n: usize) -> bool
     op as usize == awaited
 }
 
-fn at_least(mtu: u16) -> u16
-    ensures { result ≡ max mtu default_mtu }
-{
-    if mtu < att_pdu::DEFAULT_MTU {
-        att_pdu::DEFAULT_MTU
-    } else {
-        mtu
-    }
-}
-
 // The smaller of both MTUs, neither below 23.
 pub fn smaller_mtu(server: u16, ours: u16) -> u16
     ensures { result ≡ smaller_mtu server ours }
 {
-    let a = at_least(server);
-    let b = at_least(ours);
-    if b < a { b } else { a }
+    server.max(att_pdu::DEFAULT_MTU).min(ours.max(att_pdu::DEFAULT_MTU))
 }
 
 // Where the entries of an answer of n bytes end.

@@ -8,6 +8,7 @@ use state::Step;
 use uuid_value::Uuid;
 
 // What services are looked for: all of them, or the one of a UUID for its characteristics.
+// Kept: an enum and no Option<Uuid>, since All says what a walk with no UUID does, and None would not.
 #[derive(Clone, Copy)]
 pub enum Goal {
     All,
@@ -15,6 +16,8 @@ pub enum Goal {
 }
 
 // What the running step has asked for.
+// Kept: Nothing is one of them and not an Option's None, since link_responses goes through all of them in one match, for an error and for
+// an answer, as its definitions absent and present do; there Nothing does as little as any other, and an Option would only nest the match.
 #[derive(Clone, Copy)]
 pub enum Asked {
     Mtu(u16),

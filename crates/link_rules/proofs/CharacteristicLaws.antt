@@ -28,18 +28,18 @@ use Rattle.link_rules.specs.Answers.{width_of}
 use Rattle.link_rules.proofs.AnswerLaws.{entries-are, yes, no}
 use Rattle.link_rules.proofs.AbleLaws.{few}
 use Rattle.gatt_characteristics.specs.Characteristic as characteristic
-use Rattle.gatt_characteristics.specs.declared.Found as characteristics-found
+use Rattle.lists.specs.declared.Found.{Found}
 
 -- ---- the tables that answers leave
 
-pub characteristics-kept : (x y : Characteristics) (z : Services) (none : ℕ) (es : List (List ℕ)) (f : characteristics-found.Found)
+pub characteristics-kept : (x y : Characteristics) (z : Services) (none : ℕ) (es : List (List ℕ)) (f : Found Characteristics)
     → x ≡ y → f ≡ characteristic.characteristics_taken x none es → Peer z y → Peer z f.table
 characteristics-kept x y z none es f e g p =
     let q : Peer z x = subst (λ (k : Characteristics). Peer z k) (sym e) p in
     let k : (characteristic.characteristics_taken x none es).table.count ≤ 64 =
     taken-most characteristic.more characteristic.declaration_of 64 (characteristic.known x) none es (few x.count 64 x.kept q.characteristics) in
     let o = rises-if (characteristic.known (characteristic.characteristics_taken x none es).table) (taken-rising x none es (rising-if (characteristic.known x) q.rising)) in
-    subst (λ (m : characteristics-found.Found). Peer z m.table) (sym g) (record { services = q.services; characteristics = k; rising = o })
+    subst (λ (m : Found Characteristics). Peer z m.table) (sym g) (record { services = q.services; characteristics = k; rising = o })
 
 pub descriptors-kept : (x y : Characteristics) (z : Services) (first : ℕ) (es : List (List ℕ)) (f : Named)
     → x ≡ y → f ≡ descriptors_named x first es → Peer z y → Peer z f.table
@@ -58,7 +58,7 @@ module _ (w : World) (at : Micros) (n size : ℕ) where
   heard-none x e = sym (ap (characteristics_heard w at n size) e)
 
   module _ (svc : Service) where
-    abbrev characteristics-all : characteristics-found.Found
+    abbrev characteristics-all : Found Characteristics
     characteristics-all =
         characteristic.characteristics_taken w.held.state.characteristics svc.end (entries size (bytes w.held.store (payload_at + 2) (n - 2)))
 
@@ -67,7 +67,7 @@ module _ (w : World) (at : Micros) (n size : ℕ) where
     characteristics-none h =
         yes (ltb size 7) (discover_descriptors w at svc svc.start) (characteristics_found w at svc characteristics-all) (lt-ltb size 7 h)
 
-    pub characteristics-some : 7 ≤ size → (x : Characteristics) (end : ℕ) (f : characteristics-found.Found) → x ≡ w.held.state.characteristics
+    pub characteristics-some : 7 ≤ size → (x : Characteristics) (end : ℕ) (f : Found Characteristics) → x ≡ w.held.state.characteristics
         → end ≡ payload_at + 2 + (n - 2)
         → f ≡ characteristic.characteristics_taken x svc.end (entries size (part (payload_at + 2) end w.held.store))
         → characteristics_found w at svc f ≡ characteristics_heard w at n size (Some svc)

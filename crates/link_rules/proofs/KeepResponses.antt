@@ -15,9 +15,8 @@ use Rattle.time.specs.Clock.{latest}
 use Rattle.att_pdu.specs.Numbers.{op_error_rsp, op_read_rsp, op_write_rsp, err_attribute_not_found}
 use Rattle.gatt_services.specs.Service as service
 use Rattle.gatt_services.specs.declared.Service.{Service}
-use Rattle.gatt_services.specs.declared.Found as services-found
+use Rattle.lists.specs.declared.Found.{Found}
 use Rattle.gatt_characteristics.specs.Characteristic.{known, rises, characteristics_taken}
-use Rattle.gatt_characteristics.specs.declared.Found as characteristics-found
 use Rattle.gatt_descriptors.specs.declared.Named.{Named}
 use Rattle.gatt_descriptors.specs.Named.{descriptors_named}
 use Rattle.state.specs.Central.{Central, with_services, with_characteristics}
@@ -44,6 +43,8 @@ use Rattle.link_rules.specs.Responses.{asked_by, over, become, service_of, entri
 use Rattle.link_rules.proofs.KeepWork.{ready-stays, after, goes-pick, goes-not, goes_over}
 use Rattle.link_rules.proofs.KeepReplies.{stays-mtu}
 use Rattle.link_rules.proofs.KeepTables.{services-few, taken-few, taken-rises, named-few, named-rises, stays-services, stays-characteristics}
+use Rattle.gatt_services.specs.declared.Services.{Services}
+use Rattle.gatt_characteristics.specs.declared.Characteristics.{Characteristics}
 
 -- ---- a walk of discovery
 
@@ -106,7 +107,7 @@ module _ (at : Micros) (l : at.0 ≤ latest) where
   -- entries were heard
 
   module _ (k : ℕ) (w : World) (x : Walking k w) where
-    goes-services-found : (g : Goal) (found : services-found.Found) → found.table.count ≤ most_services → Goes (k + 1) w (services_found w at g found)
+    goes-services-found : (g : Goal) (found : Found Services) → found.table.count ≤ most_services → Goes (k + 1) w (services_found w at g found)
     unfolding services_found
     goes-services-found g found few =
         let c : Central = with_services w.held.state found.table in
@@ -127,7 +128,7 @@ module _ (at : Micros) (l : at.0 ≤ latest) where
         (goes-services-done k w x g)
         (goes-services-found g (service.services_taken t es) (services-few t es x.nearly.peer.services))
 
-    goes-characteristics-found : (svc : Service) (found : characteristics-found.Found) → found.table.count ≤ most_characteristics → rises (known found.table) ≡ true
+    goes-characteristics-found : (svc : Service) (found : Found Characteristics) → found.table.count ≤ most_characteristics → rises (known found.table) ≡ true
         → Goes (k + 1) w (characteristics_found w at svc found)
     unfolding characteristics_found
     goes-characteristics-found svc found few up =

@@ -25,17 +25,17 @@ use Rattle.link_rules.specs.Services.{walk_into, services_done, services_found, 
 use Rattle.link_rules.proofs.AnswerLaws.{entries-are, yes, no}
 use Rattle.link_rules.proofs.AbleLaws.{few}
 use Rattle.gatt_services.specs.Service as service
-use Rattle.gatt_services.specs.declared.Found as services-found
+use Rattle.lists.specs.declared.Found.{Found}
 use Rattle.link_questions.specs.declared.Goal.TheVariants as goal
 
-pub services-kept : (x y : Services) (z : Characteristics) (es : List (List ℕ)) (f : services-found.Found)
+pub services-kept : (x y : Services) (z : Characteristics) (es : List (List ℕ)) (f : Found Services)
     → x ≡ y → f ≡ service.services_taken x es → Peer y z → Peer f.table z
 services-kept x y z es f e g p =
     let h : x.count ≤ 32 = subst (λ (k : Services). k.count ≤ 32) (sym e) p.services in
     let k : (service.services_taken x es).table.count ≤ 32 =
     taken-most service.more service.end_of 32 (service.known x) 65535 es (few x.count 32 x.kept h) in
     record {
-      services = subst (λ (q : services-found.Found). q.table.count ≤ 32) (sym g) k;
+      services = subst (λ (q : Found Services). q.table.count ≤ 32) (sym g) k;
       characteristics = p.characteristics;
       rising = p.rising;
     }
@@ -58,20 +58,20 @@ module _ (w : World) (at : Micros) where
   unfolding services_done
   done-of g u x e f = ap (walk_into w at) f ∙ sym (ap (services_done w at) e)
 
-module _ (w v : World) (at : Micros) (g : Goal) (f : services-found.Found)
+module _ (w v : World) (at : Micros) (g : Goal) (f : Found Services)
     (e : v ≡ become w (with_services w.held.state f.table)) where
   abbrev kept : World
   kept = become w (with_services w.held.state f.table)
 
 module _ (w : World) (at : Micros) (g : Goal) (n size : ℕ) where
-  abbrev services-all : services-found.Found
+  abbrev services-all : Found Services
   services-all = service.services_taken w.held.state.services (entries size (bytes w.held.store (payload_at + 2) (n - 2)))
 
   pub services-none : size < 6 → services_done w at g ≡ services_heard w at g n size
   unfolding services_heard
   services-none h = yes (ltb size 6) (services_done w at g) (services_found w at g services-all) (lt-ltb size 6 h)
 
-  pub services-some : 6 ≤ size → (x : Services) (end : ℕ) (f : services-found.Found) → x ≡ w.held.state.services → end ≡ payload_at + 2 + (n - 2)
+  pub services-some : 6 ≤ size → (x : Services) (end : ℕ) (f : Found Services) → x ≡ w.held.state.services → end ≡ payload_at + 2 + (n - 2)
       → f ≡ service.services_taken x (entries size (part (payload_at + 2) end w.held.store)) → services_found w at g f ≡ services_heard w at g n size
   unfolding services_heard
   services-some h x end f e₁ e₂ e₃ =

@@ -4,7 +4,7 @@ use Rattle.bytes_base.specs.Choice.{pick}
 use Rattle.time.specs.declared.Micros.{Micros}
 use Rattle.gatt_services.specs.declared.Service.{Service}
 use Rattle.gatt_characteristics.specs.Characteristic as characteristic
-use Rattle.gatt_characteristics.specs.declared.Found as characteristics-found
+use Rattle.lists.specs.declared.Found.{Found}
 use Rattle.gatt_descriptors.specs.declared.Named.{Named}
 use Rattle.gatt_descriptors.specs.Named.{descriptors_named}
 use Rattle.state.specs.Central.{with_characteristics}
@@ -13,11 +13,12 @@ use Rattle.script_rules.specs.World.{World}
 use Rattle.script_rules.specs.Discovery.{discover_characteristics, discover_descriptors}
 use Rattle.link_rules.specs.Answers.{width_of}
 use Rattle.link_rules.specs.Moves.{over, become, entries_of, after_range}
+use Rattle.gatt_characteristics.specs.declared.Characteristics.{Characteristics}
 
 -- ---- characteristics
 
 -- by what the entries leave; a declaration at the service's end, or past it, is the last
-unfoldable pub characteristics_found : World → Micros → Service → characteristics-found.Found → World
+unfoldable pub characteristics_found : World → Micros → Service → Found Characteristics → World
 characteristics_found w at svc f =
     let v = become w (with_characteristics w.held.state f.table) in
     pick f.full

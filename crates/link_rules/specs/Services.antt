@@ -3,7 +3,7 @@ use Rattle.std.specs.Prelude.{ℕ, ◌+◌, eqb, ltb, Option, Some, None}
 use Rattle.bytes_base.specs.Choice.{pick}
 use Rattle.time.specs.declared.Micros.{Micros}
 use Rattle.gatt_services.specs.Service as service
-use Rattle.gatt_services.specs.declared.Found as services-found
+use Rattle.lists.specs.declared.Found.{Found}
 use Rattle.state.specs.Central.{with_services}
 use Rattle.state.specs.declared.StepStatus.TheVariants.{Ok, NotFound, TableFull}
 use Rattle.script_rules.specs.World.{World}
@@ -12,6 +12,7 @@ use Rattle.link_rules.specs.Moves.{over, become, service_of, entries_of}
 use Rattle.link_questions.specs.declared.Goal.{Goal}
 use Rattle.link_questions.specs.declared.Goal.TheVariants as goal
 use Rattle.gatt_services.specs.declared.Service.{Service}
+use Rattle.gatt_services.specs.declared.Services.{Services}
 
 -- the characteristics of a service are next
 unfoldable pub walk_into : World → Micros → Option Service → World
@@ -24,7 +25,7 @@ services_done w at goal.All = over w at Ok
 services_done w at (goal.Of u) = walk_into w at (service_of w u)
 
 -- by what the entries leave; a service that ends at FFFF is the last
-unfoldable pub services_found : World → Micros → Goal → services-found.Found → World
+unfoldable pub services_found : World → Micros → Goal → Found Services → World
 services_found w at g f =
     let v = become w (with_services w.held.state f.table) in
     pick f.full (over v at TableFull) (pick (eqb f.last last_handle) (services_done v at g) (discover_services v at (f.last + 1)))

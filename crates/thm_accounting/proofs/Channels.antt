@@ -16,9 +16,8 @@ use Rattle.l2cap.specs.Numbers.{cid_att, cid_signaling, cid_smp}
 use Rattle.att_pdu.specs.Numbers.{op_error_rsp, op_exchange_mtu_req, op_handle_value_ntf, op_handle_value_ind, op_read_rsp, op_write_rsp, err_invalid_handle, err_request_not_supported, err_attribute_not_found}
 use Rattle.gatt_services.specs.Service as service
 use Rattle.gatt_services.specs.declared.Service.{Service}
-use Rattle.gatt_services.specs.declared.Found as services-found
+use Rattle.lists.specs.declared.Found.{Found}
 use Rattle.gatt_characteristics.specs.Characteristic as characteristic
-use Rattle.gatt_characteristics.specs.declared.Found as characteristics-found
 use Rattle.gatt_descriptors.specs.declared.Named.{Named}
 use Rattle.gatt_descriptors.specs.Named.{descriptors_named}
 use Rattle.notifications.specs.Kept.{part}
@@ -38,6 +37,8 @@ use Rattle.link_rules.specs.Att.{searches, accesses, silent, other_request, by_o
 use Rattle.link_rules.specs.Channel.{on_channel}
 use Rattle.thm_accounting.proofs.Gives.{Whole, Gives, gives_none, gives_then, Apart, apart, apart-state, gives-finish, whole_same}
 use Rattle.thm_accounting.proofs.Starts.{gives-ends, quiet, gives-services, gives-descriptors, gives-characteristics, gives-check}
+use Rattle.gatt_services.specs.declared.Services.{Services}
+use Rattle.gatt_characteristics.specs.declared.Characteristics.{Characteristics}
 
 -- ---- what is no response
 
@@ -132,7 +133,7 @@ after : {at : Micros} (w : World) (c : Central) (v : World) → Whole w.held →
     → c.results ≡ w.held.state.results → Gives at w.held v.held
 after w c v k a f e = gives_then (apart k a) (f (whole_same k refl e))
 
-gives-services-found : (w : World) (at : Micros) (g : Goal) (f : services-found.Found) → Whole w.held → Gives at w.held (services_found w at g f).held
+gives-services-found : (w : World) (at : Micros) (g : Goal) (f : Found Services) → Whole w.held → Gives at w.held (services_found w at g f).held
 unfolding services_found
 gives-services-found w at g f k = after w (with_services w.held.state f.table) (services_found w at g f) k (apart-state refl refl refl refl refl refl refl refl refl refl refl) (λ q. go q f.full (eqb f.last last_handle)) refl
   where
@@ -152,7 +153,7 @@ gives-services-heard w at g n size k = go (ltb size 6)
     go true = gives-services-done w at k g
     go false = gives-services-found w at g _ k
 
-gives-characteristics-found : (w : World) (at : Micros) (svc : Service) (f : characteristics-found.Found) → Whole w.held → Gives at w.held (characteristics_found w at svc f).held
+gives-characteristics-found : (w : World) (at : Micros) (svc : Service) (f : Found Characteristics) → Whole w.held → Gives at w.held (characteristics_found w at svc f).held
 unfolding characteristics_found
 gives-characteristics-found w at svc f k =
     after w (with_characteristics w.held.state f.table) (characteristics_found w at svc f) k (apart-state refl refl refl refl refl refl refl refl refl refl refl) (λ q. go q f.full (leb svc.end f.last)) refl

@@ -17,9 +17,8 @@ use Rattle.l2cap.specs.Numbers.{cid_att, cid_signaling, cid_smp}
 use Rattle.att_pdu.specs.Numbers.{op_error_rsp, op_exchange_mtu_req, op_handle_value_ntf, op_handle_value_ind, op_read_rsp, op_write_rsp, err_invalid_handle, err_request_not_supported, err_attribute_not_found}
 use Rattle.gatt_services.specs.Service as service
 use Rattle.gatt_services.specs.declared.Service.{Service}
-use Rattle.gatt_services.specs.declared.Found as services-found
+use Rattle.lists.specs.declared.Found.{Found}
 use Rattle.gatt_characteristics.specs.Characteristic as characteristic
-use Rattle.gatt_characteristics.specs.declared.Found as characteristics-found
 use Rattle.gatt_descriptors.specs.declared.Named.{Named}
 use Rattle.gatt_descriptors.specs.Named.{descriptors_named}
 use Rattle.state.specs.Central.{Central, with_services, with_characteristics}
@@ -39,6 +38,8 @@ use Rattle.link_rules.specs.Channel.{on_channel}
 use Rattle.thm_trail.specs.Trail.{att-heard, came_on}
 use Rattle.thm_counts.specs.Tally.{noticed, links_came}
 use Rattle.thm_counts.proofs.Kept.{Kept, kept-none, kept_then, still, kept-finish, kept-ends, kept-services, kept-descriptors, kept-characteristics, kept-check}
+use Rattle.gatt_services.specs.declared.Services.{Services}
+use Rattle.gatt_characteristics.specs.declared.Characteristics.{Characteristics}
 
 -- ---- responses
 
@@ -96,7 +97,7 @@ module _ (w : World) (at : Micros) where
 after : (w : World) (c : Central) (v : World) → c.counters ≡ w.held.state.counters → Kept (become w c).held v.held → Kept w.held v.held
 after w c v e f = kept_then (still {h = w.held} {c = c} e) f
 
-kept-services-found : (w : World) (at : Micros) (g : Goal) (f : services-found.Found) → Kept w.held (services_found w at g f).held
+kept-services-found : (w : World) (at : Micros) (g : Goal) (f : Found Services) → Kept w.held (services_found w at g f).held
 unfolding services_found
 kept-services-found w at g f = after w (with_services w.held.state f.table) (services_found w at g f) refl (go f.full (eqb f.last last_handle))
   where
@@ -116,7 +117,7 @@ kept-services-heard w at g n size = go (ltb size 6)
     go true = kept-services-done w at g
     go false = kept-services-found w at g _
 
-kept-characteristics-found : (w : World) (at : Micros) (svc : Service) (f : characteristics-found.Found) → Kept w.held (characteristics_found w at svc f).held
+kept-characteristics-found : (w : World) (at : Micros) (svc : Service) (f : Found Characteristics) → Kept w.held (characteristics_found w at svc f).held
 unfolding characteristics_found
 kept-characteristics-found w at svc f =
     after w (with_characteristics w.held.state f.table) (characteristics_found w at svc f) refl (go f.full (leb svc.end f.last))

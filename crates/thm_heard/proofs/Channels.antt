@@ -13,9 +13,8 @@ use Rattle.l2cap.specs.Numbers.{cid_att, cid_signaling, cid_smp}
 use Rattle.att_pdu.specs.Numbers.{op_error_rsp, op_exchange_mtu_req, op_handle_value_ntf, op_handle_value_ind, op_read_rsp, op_write_rsp, err_invalid_handle, err_request_not_supported, err_attribute_not_found}
 use Rattle.gatt_services.specs.Service as service
 use Rattle.gatt_services.specs.declared.Service.{Service}
-use Rattle.gatt_services.specs.declared.Found as services-found
+use Rattle.lists.specs.declared.Found.{Found}
 use Rattle.gatt_characteristics.specs.Characteristic as characteristic
-use Rattle.gatt_characteristics.specs.declared.Found as characteristics-found
 use Rattle.gatt_descriptors.specs.declared.Named.{Named}
 use Rattle.gatt_descriptors.specs.Named.{descriptors_named}
 use Rattle.state.specs.Central.{Central, with_services, with_characteristics}
@@ -33,6 +32,8 @@ use Rattle.link_rules.specs.Responses.{asked_by, over, become, service_of, entri
 use Rattle.link_rules.specs.Att.{searches, accesses, silent, other_request, by_opcode, on_att}
 use Rattle.link_rules.specs.Channel.{on_channel}
 use Rattle.thm_heard.proofs.Keeps.{Bears, bears-none, bears-then, bears-finish, keeps-ends, keeps-services, keeps-descriptors, keeps-characteristics, keeps-check}
+use Rattle.gatt_services.specs.declared.Services.{Services}
+use Rattle.gatt_characteristics.specs.declared.Characteristics.{Characteristics}
 
 -- ---- responses
 
@@ -95,7 +96,7 @@ untouched : {h g : Held} → g.state.bearer.held ≡ h.state.bearer.held → g.s
     → g.state.bearer.link.handle ≡ h.state.bearer.link.handle → g.state.options ≡ h.state.options → Bears h g
 untouched a b c d e = record { held = a; present = b; closed = c; handle = d; options = e }
 
-bears-services-found : (w : World) (at : Micros) (g : Goal) (f : services-found.Found) → Bears w.held (services_found w at g f).held
+bears-services-found : (w : World) (at : Micros) (g : Goal) (f : Found Services) → Bears w.held (services_found w at g f).held
 unfolding services_found
 bears-services-found w at g f = after w (with_services w.held.state f.table) (services_found w at g f) (untouched refl refl refl refl refl) (go f.full (eqb f.last last_handle))
   where
@@ -115,7 +116,7 @@ bears-services-heard w at g n size = go (ltb size 6)
     go true = bears-services-done w at g
     go false = bears-services-found w at g _
 
-bears-characteristics-found : (w : World) (at : Micros) (svc : Service) (f : characteristics-found.Found) → Bears w.held (characteristics_found w at svc f).held
+bears-characteristics-found : (w : World) (at : Micros) (svc : Service) (f : Found Characteristics) → Bears w.held (characteristics_found w at svc f).held
 unfolding characteristics_found
 bears-characteristics-found w at svc f =
     after w (with_characteristics w.held.state f.table) (characteristics_found w at svc f) (untouched refl refl refl refl refl) (go f.full (leb svc.end f.last))

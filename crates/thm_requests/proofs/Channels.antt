@@ -14,9 +14,8 @@ use Rattle.l2cap.specs.Numbers.{cid_att, cid_signaling, cid_smp}
 use Rattle.att_pdu.specs.Numbers.{op_error_rsp, op_exchange_mtu_req, op_handle_value_ntf, op_handle_value_ind, op_read_rsp, op_write_rsp, err_invalid_handle, err_request_not_supported, err_attribute_not_found}
 use Rattle.gatt_services.specs.Service as service
 use Rattle.gatt_services.specs.declared.Service.{Service}
-use Rattle.gatt_services.specs.declared.Found as services-found
+use Rattle.lists.specs.declared.Found.{Found}
 use Rattle.gatt_characteristics.specs.Characteristic as characteristic
-use Rattle.gatt_characteristics.specs.declared.Found as characteristics-found
 use Rattle.gatt_descriptors.specs.declared.Named.{Named}
 use Rattle.gatt_descriptors.specs.Named.{descriptors_named}
 use Rattle.state.specs.Central.{Central, with_services, with_characteristics}
@@ -50,6 +49,8 @@ use Rattle.l2cap_signaling.proofs.AnswerLaws.{signaling-sized, smp-sized}
 use Rattle.thm_requests.specs.Sorts.{requests, commands}
 use Rattle.thm_requests.proofs.Asks.{Asks, calm, none, asks, Calmly, Voice, Reply, mute, replies, voiced, itself, asks_none, mild, asks-then, asks-quit, asks-finish, not-awaited}
 use Rattle.thm_requests.proofs.Starts.{asks-ends, asks-services, asks-descriptors, asks-characteristics, asks-check}
+use Rattle.gatt_services.specs.declared.Services.{Services}
+use Rattle.gatt_characteristics.specs.declared.Characteristics.{Characteristics}
 
 abbrev pub Runs : World → Type 0
 Runs w = w.held.state.running.active ≡ true
@@ -110,7 +111,7 @@ module _ (w : World) (at : Micros) (k : Runs w) where
 after : (w : World) (c : Central) (v : World) → Calmly w (become w c) → Asks (become w c) v → Asks w v
 after w c v a f = asks-then {w = w} {g = on_state w.held c} a f
 
-asks-services-found : (w : World) (at : Micros) (g : Goal) (f : services-found.Found) → Runs w → Asks w (services_found w at g f)
+asks-services-found : (w : World) (at : Micros) (g : Goal) (f : Found Services) → Runs w → Asks w (services_found w at g f)
 unfolding services_found
 asks-services-found w at g f k = after w (with_services w.held.state f.table) (services_found w at g f) (mild refl refl refl refl) (go k f.full (eqb f.last last_handle))
   where
@@ -130,7 +131,7 @@ asks-services-heard w at g n size k = go (ltb size 6)
     go true = asks-services-done w at k g
     go false = asks-services-found w at g _ k
 
-asks-characteristics-found : (w : World) (at : Micros) (svc : Service) (f : characteristics-found.Found) → Runs w → Asks w (characteristics_found w at svc f)
+asks-characteristics-found : (w : World) (at : Micros) (svc : Service) (f : Found Characteristics) → Runs w → Asks w (characteristics_found w at svc f)
 unfolding characteristics_found
 asks-characteristics-found w at svc f k =
     after w (with_characteristics w.held.state f.table) (characteristics_found w at svc f) (mild refl refl refl refl) (go k f.full (leb svc.end f.last))

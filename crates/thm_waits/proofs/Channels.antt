@@ -17,9 +17,8 @@ use Rattle.l2cap.specs.Numbers.{cid_att, cid_signaling, cid_smp}
 use Rattle.att_pdu.specs.Numbers.{op_error_rsp, op_exchange_mtu_req, op_handle_value_ntf, op_handle_value_ind, op_read_rsp, op_write_rsp, err_invalid_handle, err_request_not_supported, err_attribute_not_found}
 use Rattle.gatt_services.specs.Service as service
 use Rattle.gatt_services.specs.declared.Service.{Service}
-use Rattle.gatt_services.specs.declared.Found as services-found
+use Rattle.lists.specs.declared.Found.{Found}
 use Rattle.gatt_characteristics.specs.Characteristic as characteristic
-use Rattle.gatt_characteristics.specs.declared.Found as characteristics-found
 use Rattle.gatt_descriptors.specs.declared.Named.{Named}
 use Rattle.gatt_descriptors.specs.Named.{descriptors_named}
 use Rattle.notifications.specs.declared.Age.{Age}
@@ -43,6 +42,8 @@ use Rattle.link_rules.specs.Channel.{on_channel}
 use Rattle.thm_waits.specs.Waits.{is_wait_notification}
 use Rattle.thm_waits.proofs.Leads.{Other, other, Plain, Leads, stays, leads-none, leads-then, leads-finish, leads-ends, leads-badly}
 use Rattle.thm_waits.proofs.Starts.{leads-services, leads-descriptors, leads-characteristics, leads-check, Kind, plain, waits, kind, unchecked}
+use Rattle.gatt_services.specs.declared.Services.{Services}
+use Rattle.gatt_characteristics.specs.declared.Characteristics.{Characteristics}
 
 -- ---- responses
 
@@ -100,7 +101,7 @@ module _ (w : World) (at : Micros) (k : Plain w.held) where
 after : {at : Micros} (w : World) (c : Central) (v : World) → Other w.held (on_state w.held c) → Leads at (become w c).held v.held → Leads at w.held v.held
 after w c v o f = leads-then o f
 
-leads-services-found : (w : World) (at : Micros) (g : Goal) (f : services-found.Found) → Plain w.held → Leads at w.held (services_found w at g f).held
+leads-services-found : (w : World) (at : Micros) (g : Goal) (f : Found Services) → Plain w.held → Leads at w.held (services_found w at g f).held
 unfolding services_found
 leads-services-found w at g f k =
     after w (with_services w.held.state f.table) (services_found w at g f) (other refl refl refl refl refl refl refl refl refl) (go k f.full (eqb f.last last_handle))
@@ -121,7 +122,7 @@ leads-services-heard w at g n size k = go (ltb size 6)
     go true = leads-services-done w at k g
     go false = leads-services-found w at g _ k
 
-leads-characteristics-found : (w : World) (at : Micros) (svc : Service) (f : characteristics-found.Found) → Plain w.held → Leads at w.held (characteristics_found w at svc f).held
+leads-characteristics-found : (w : World) (at : Micros) (svc : Service) (f : Found Characteristics) → Plain w.held → Leads at w.held (characteristics_found w at svc f).held
 unfolding characteristics_found
 leads-characteristics-found w at svc f k =
     after w (with_characteristics w.held.state f.table) (characteristics_found w at svc f) (other refl refl refl refl refl refl refl refl refl) (go k f.full (leb svc.end f.last))

@@ -19,8 +19,7 @@ use Rattle.l2cap_signaling.proofs.AnswerLaws.{signaling-sized, smp-sized}
 use Rattle.l2cap_signaling.specs.declared.Update as update
 use Rattle.l2cap_signaling.specs.declared.Update.TheVariants as update-variants
 use Rattle.gatt_services.specs.declared.Service.{Service}
-use Rattle.gatt_services.specs.declared.Found as services-found
-use Rattle.gatt_characteristics.specs.declared.Found as characteristics-found
+use Rattle.lists.specs.declared.Found.{Found}
 use Rattle.gatt_descriptors.specs.declared.Named.{Named}
 use Rattle.state.specs.Central.{with_services, with_characteristics}
 use Rattle.state_rules.specs.Steps.{most_mtu}
@@ -38,6 +37,8 @@ use Rattle.link_rules.specs.Att.{searches, accesses, silent, other_request, by_o
 use Rattle.link_rules.specs.Channel.{on_channel}
 use Rattle.thm_wire.proofs.Sends.{Quiet, Sends, quiet, one, same, nothing, either, Mtu, sends-att}
 use Rattle.thm_wire.proofs.Starts.{sends-services, sends-descriptors, sends-characteristics}
+use Rattle.gatt_services.specs.declared.Services.{Services}
+use Rattle.gatt_characteristics.specs.declared.Characteristics.{Characteristics}
 
 -- ---- responses
 
@@ -80,7 +81,7 @@ module _ (m : ℕ) (k : Mtu m) (at : Micros) where
   unfolding failed
   sends-failed w code a = either (eqb code err_attribute_not_found) _ _ (sends-absent w a) (nothing m w.told)
 
-  sends-services-found : (w : World) (g : Goal) (f : services-found.Found) → Sends m w.told (services_found w at g f).told
+  sends-services-found : (w : World) (g : Goal) (f : Found Services) → Sends m w.told (services_found w at g f).told
   unfolding services_found
   sends-services-found w g f =
       let v : World = become w (with_services w.held.state f.table) in
@@ -90,7 +91,7 @@ module _ (m : ℕ) (k : Mtu m) (at : Micros) where
   unfolding services_heard
   sends-services-heard w g n size = either (ltb size 6) _ _ (sends-services-done w g) (sends-services-found w g _)
 
-  sends-characteristics-found : (w : World) (svc : Service) (f : characteristics-found.Found) → Sends m w.told (characteristics_found w at svc f).told
+  sends-characteristics-found : (w : World) (svc : Service) (f : Found Characteristics) → Sends m w.told (characteristics_found w at svc f).told
   unfolding characteristics_found
   sends-characteristics-found w svc f =
       let v : World = become w (with_characteristics w.held.state f.table) in

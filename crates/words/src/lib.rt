@@ -9,6 +9,15 @@ ghost use Rattle.words.specs.Tables.{tables_size};
 use time::Millis;
 use uuid_value::Uuid;
 
+// What an answer with entries leaves beside the records: how many there are then, the handle of the last entry read, and whether an
+// entry had no place.
+#[derive(Clone, Copy)]
+pub struct Answered {
+    pub count: usize,
+    pub last: u16,
+    pub full: bool,
+}
+
 // All words of the tables.
 pub const SIZE: usize = 1152;
 

@@ -10,7 +10,7 @@ use Rattle.lists.proofs.TableLaws.{take-onto}
 use Rattle.gatt_characteristics.specs.Characteristic.{known, Rising, more, declaration_of, characteristics_taken}
 use Rattle.gatt_characteristics.specs.declared.Characteristic.{Characteristic}
 use Rattle.gatt_characteristics.specs.declared.Characteristics.{Characteristics}
-use Rattle.gatt_characteristics.specs.declared.Found.{Found}
+use Rattle.lists.specs.declared.Found.{Found}
 use Rattle.gatt_characteristics.proofs.Keeps.{taken-count}
 use Rattle.gatt_descriptors.specs.Named.{given_all, descriptors_named}
 use Rattle.gatt_descriptors.specs.declared.Named.{Named}
@@ -25,15 +25,15 @@ module _ (w : List ℕ) (count : ℕ) (k : count ≤ 64) (t : Characteristics) (
 
   -- ---- characteristics
 
-  module _ (none : ℕ) (es : List (List ℕ)) (f : Found) (ef : f ≡ characteristics_taken t none es) where
+  module _ (none : ℕ) (es : List (List ℕ)) (f : Found Characteristics) (ef : f ≡ characteristics_taken t none es) where
     abbrev left : List Characteristic → Have Characteristic
     left l = taken more declaration_of 64 l none es
 
-    abbrev whole : Found
+    abbrev whole : Found Characteristics
     whole = characteristics_taken (in_table w count) none es
 
     as_many : f.table.count ≡ whole.table.count
-    as_many = ap (λ (x : Found). x.table.count) ef ∙ ap (λ (l : List Characteristic). length (left l).list) et.1
+    as_many = ap (λ (x : Found Characteristics). x.table.count) ef ∙ ap (λ (l : List Characteristic). length (left l).list) et.1
 
     pub taken-fits : f.table.count ≤ 64
     taken-fits = omega (arith, as_many, taken-count (in_table w count) none es k (length-characteristics w))
@@ -42,11 +42,11 @@ module _ (w : List ℕ) (count : ℕ) (k : count ≤ 64) (t : Characteristics) (
         → (tables v ≡ with_characteristics (tables w) whole.table.kept) × (f.table.count ≡ whole.table.count) × (f.last ≡ whole.last) × (f.full ≡ whole.full)
     taken_back v ev =
         let e : known f.table ≡ (left (take count (characteristics_in w))).list =
-        ap (λ (x : Found). known x.table) ef ∙ take-onto t.kept (left (known t)).list ∙ ap (λ (l : List Characteristic). (left l).list) et.1 in (
+        ap (λ (x : Found Characteristics). known x.table) ef ∙ take-onto t.kept (left (known t)).list ∙ ap (λ (l : List Characteristic). (left l).list) et.1 in (
           ev ∙ ap (λ (l : List Characteristic). with_characteristics (tables w) (onto (characteristics_in w) l)) e,
           as_many,
-          ap (λ (x : Found). x.last) ef ∙ ap (λ (l : List Characteristic). (left l).last) et.1,
-          ap (λ (x : Found). x.full) ef ∙ ap (λ (l : List Characteristic). (left l).full) et.1,
+          ap (λ (x : Found Characteristics). x.last) ef ∙ ap (λ (l : List Characteristic). (left l).last) et.1,
+          ap (λ (x : Found Characteristics). x.full) ef ∙ ap (λ (l : List Characteristic). (left l).full) et.1,
         )
 
   -- ---- descriptors

@@ -5,7 +5,7 @@ use Rattle.lists.specs.Cut.{entries, part}
 use Rattle.gatt_characteristics.specs.Characteristic.{characteristics_taken}
 use Rattle.gatt_characteristics.specs.declared.Characteristic.{Characteristic}
 use Rattle.gatt_characteristics.specs.declared.Characteristics.{Characteristics}
-use Rattle.gatt_characteristics.specs.declared.Found.{Found}
+use Rattle.lists.specs.declared.Found.{Found}
 use Rattle.gatt_descriptors.specs.Range.{range_or}
 use Rattle.gatt_descriptors.specs.Named.{descriptors_named}
 use Rattle.gatt_descriptors.specs.declared.Named.{Named}
@@ -17,7 +17,7 @@ abbrev pub in_table : List ℕ → ℕ → Characteristics
 in_table w count = record { kept = characteristics_in w; count = count }
 
 -- after the entries of size bytes that stand in the store from index from to index end
-abbrev pub taken_in : List ℕ → ℕ → List ℕ → ℕ → ℕ → ℕ → ℕ → Found
+abbrev pub taken_in : List ℕ → ℕ → List ℕ → ℕ → ℕ → ℕ → ℕ → Found Characteristics
 taken_in w count store from end size none = characteristics_taken (in_table w count) none (entries size (part from end store))
 
 abbrev pub named_in : List ℕ → ℕ → List ℕ → ℕ → ℕ → ℕ → ℕ → Named

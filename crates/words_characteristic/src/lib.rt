@@ -1,6 +1,9 @@
 // Known characteristics in the lent words: a place has its UUID in two words and the rest in a third.
 #![tactic(auto)]
 
+// Kept: these functions stand in words_service too, over other rows: a characteristic has five fields in its third word, a service two in its, and the contracts name
+// each one's rows of the tables (with_services, with_characteristics). A trait for both would ask for more laws than the short loops do.
+
 ghost use Rattle.std.specs.Prelude.{◌≡◌, ◌+◌, ◌/◌, ◌%◌, ◌≤◌, ◌<◌, length, get_or, set, take};
 ghost use Rattle.lists.specs.Queue.{onto};
 ghost use Rattle.state_places.specs.Sizes.{most_characteristics};
@@ -13,15 +16,7 @@ ghost use Rattle.words_characteristic.specs.Parts.{in_table, taken_in, named_in,
 
 use gatt_characteristics::{Characteristic, Characteristics};
 use uuid_value::Uuid;
-use words::{CHARACTERISTIC, CHARACTERISTIC_HIGH, CHARACTERISTIC_LOW};
-
-// How many are known after an answer, the declaration of the last entry read, and whether an entry had no place.
-#[derive(Clone, Copy)]
-pub struct Heard {
-    pub count: usize,
-    pub last: u16,
-    pub full: bool,
-}
+use words::{Answered, CHARACTERISTIC, CHARACTERISTIC_HIGH, CHARACTERISTIC_LOW};
 
 // Of the characteristics looked at so far, from the end: the first range, and where the one before them ends.
 #[derive(Clone, Copy)]
@@ -158,8 +153,7 @@ pub fn find_characteristic(tables: &[u64; 1152], count: usize, uuid: Uuid) -> Op
     requires { count ≤ most_characteristics }
     ensures { result ≡ characteristic_with uuid (take count (characteristics_in tables.now)) }
 {
-    let mut i = 0;
-    while i < count {
+    for i in 0..count {
         let a = CHARACTERISTIC_LOW + i;
         let b = CHARACTERISTIC_HIGH + i;
         let low = tables[a];
@@ -169,7 +163,6 @@ pub fn find_characteristic(tables: &[u64; 1152], count: usize, uuid: Uuid) -> Op
             let x = characteristic_at(tables, i);
             return Some(x);
         }
-        i += 1;
     }
     None
 }
@@ -181,14 +174,12 @@ pub fn is_rising(tables: &[u64; 1152], count: usize) -> bool
 {
     let mut ok = true;
     let mut least: u32 = 0;
-    let mut i = 0;
-    while i < count {
+    for i in 0..count {
         let a = CHARACTERISTIC + i;
         let word = tables[a];
         let d = declaration_of(word) as u32;
         ok = ok & (least <= d);
         least = d + 1;
-        i += 1;
     }
     ok
 }
@@ -246,12 +237,9 @@ pub fn descriptor_range(
         best: None,
         to: end,
     };
-    let mut i = count;
-    while 0 < i {
-        let j = i - 1;
-        let c = characteristic_at(tables, j);
+    for i in (0..count).rev() {
+        let c = characteristic_at(tables, i);
         s = scan_one(start, end, from, c, s);
-        i = j;
     }
     s.best
 }
@@ -271,10 +259,8 @@ pub fn characteristics_of(tables: &[u64; 1152], count: usize) -> Characteristics
         cccd: None,
     };
     let mut kept = [zero; 64];
-    let mut i = 0;
-    while i < count {
+    for i in 0..count {
         kept[i] = characteristic_at(tables, i);
-        i += 1;
     }
     Characteristics { kept, count }
 }
@@ -285,13 +271,8 @@ pub fn put_characteristics(tables: &mut [u64; 1152], t: Characteristics)
     ensures { all.tables tables.new
         ≡ all.with_characteristics (all.tables tables.old) (onto (characteristics_in tables.old) (known t)) }
 {
-    let kept = t.kept;
-    let count = t.count;
-    let mut at = 0;
-    while at < count {
-        let x = kept[at];
-        put_characteristic(tables, at, x);
-        at += 1;
+    for at in 0..t.count {
+        put_characteristic(tables, at, t.kept[at]);
     }
 }
 
@@ -307,7 +288,7 @@ pub fn take_characteristics(
     end: usize,
     size: usize,
     none: u16,
-) -> Heard
+) -> Answered
     requires { (count ≤ most_characteristics) × Rising (take count (characteristics_in tables.old)) × (5 ≤ size) × (from ≤ end) × (end ≤ length store.now) }
     ensures { (all.tables tables.new
         ≡ all.with_characteristics (all.tables tables.old)
@@ -320,7 +301,7 @@ pub fn take_characteristics(
     let f = gatt_characteristics::take_characteristics(t, store, from, end, size, none);
     let known = f.table;
     put_characteristics(tables, known);
-    Heard {
+    Answered {
         count: known.count,
         last: f.last,
         full: f.full,

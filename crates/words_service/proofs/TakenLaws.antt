@@ -13,7 +13,7 @@ use Rattle.lists.proofs.TakenLaws.{taken-most}
 use Rattle.gatt_services.specs.Service.{known, more, end_of, services_taken}
 use Rattle.gatt_services.specs.declared.Service.{Service}
 use Rattle.gatt_services.specs.declared.Services.{Services}
-use Rattle.gatt_services.specs.declared.Found.{Found}
+use Rattle.lists.specs.declared.Found.{Found}
 use Rattle.words.specs.Tables.{tables, with_services, services_in}
 use Rattle.words.proofs.RowLaws.{length-services}
 use Rattle.words_service.specs.Taken.{taken_in}
@@ -55,7 +55,7 @@ taken-few x es h = taken-most more end_of 32 (known x) 65535 es h
 
 -- ---- the services of the words taken out, and what an answer leaves put back
 
-module _ (w : List ℕ) (n : ℕ) (x : Services) (s : List ℕ) (from end size : ℕ) (f : Found) (b : n ≤ 32) (e : (x.count ≡ n) × (known x ≡ take n (services_in w)))
+module _ (w : List ℕ) (n : ℕ) (x : Services) (s : List ℕ) (from end size : ℕ) (f : Found Services) (b : n ≤ 32) (e : (x.count ≡ n) × (known x ≡ take n (services_in w)))
     (g : f ≡ services_taken x (entries size (part from end s))) where
   abbrev es : List (List ℕ)
   es = entries size (part from end s)
@@ -63,7 +63,7 @@ module _ (w : List ℕ) (n : ℕ) (x : Services) (s : List ℕ) (from end size :
   abbrev y : Services
   y = record { kept = services_in w; count = n }
 
-  abbrev z : Found
+  abbrev z : Found Services
   z = taken_in w n s from end size
 
   pub few : f.table.count ≤ 32
@@ -75,9 +75,9 @@ module _ (w : List ℕ) (n : ℕ) (x : Services) (s : List ℕ) (from end size :
       → (tables v ≡ with_services (tables w) z.table.kept) × (f.table.count ≡ z.table.count) × (f.last ≡ z.last) × (f.full ≡ z.full)
   back v h = (
     h
-        ∙ ap (λ (t : Found). with_services (tables w) (onto (services_in w) (known t.table))) g
+        ∙ ap (λ (t : Found Services). with_services (tables w) (onto (services_in w) (known t.table))) g
         ∙ ap (λ (t : Services). with_services (tables w) t.kept) (sym (written_back x y es e.1)),
-    ap (λ (t : Found). t.table.count) g ∙ same_count x y es e.1,
-    ap (λ (t : Found). t.last) g ∙ same-last x y es e.1,
-    ap (λ (t : Found). t.full) g ∙ same_full x y es e.1,
+    ap (λ (t : Found Services). t.table.count) g ∙ same_count x y es e.1,
+    ap (λ (t : Found Services). t.last) g ∙ same-last x y es e.1,
+    ap (λ (t : Found Services). t.full) g ∙ same_full x y es e.1,
   )

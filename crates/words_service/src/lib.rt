@@ -1,6 +1,9 @@
 // Known services in the lent words: one is read and written, one is found by its UUID, and an answer's entries are taken.
 #![tactic(auto)]
 
+// Kept: these functions stand in words_characteristic too, over other rows: a service has two fields in its third word, a characteristic five in its, and the contracts name
+// each one's rows of the tables (with_services, with_characteristics). A trait for both would ask for more laws than the short loops do.
+
 ghost use Rattle.std.specs.Prelude.{◌≡◌, ◌/◌, ◌%◌, ◌<◌, ◌≤◌, length, take, get_or, set};
 ghost use Rattle.state_places.specs.Sizes.{most_services};
 ghost use Rattle.lists.specs.Queue.{onto};
@@ -12,18 +15,10 @@ ghost use Rattle.words_service.specs.Taken.{taken_in};
 
 use gatt_services::{Service, Services};
 use uuid_value::Uuid;
+use words::Answered;
 
 // A handle is below it: the end handle stands above the start handle's 16 bits.
 const HANDLES: u64 = 65536;
-
-// What an answer leaves beside the services: how many there are then, the end handle of the last entry read, and whether an
-// entry had no place.
-#[derive(Clone, Copy)]
-pub struct Answered {
-    pub count: usize,
-    pub last: u16,
-    pub full: bool,
-}
 
 // ---- one service
 

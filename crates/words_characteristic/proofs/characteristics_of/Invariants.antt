@@ -5,7 +5,4 @@ use Rattle.words.specs.Tables.{characteristics_in}
 use Rattle.words_characteristic.proofs.characteristics_of.Given as goal
 
 abbrev pub invariant-loop-i : goal.invariant-loop-i
-invariant-loop-i l = (l.i ≤ l.count) × (l.count ≤ 64) × (length l.kept ≡ 64) × (take l.i l.kept ≡ take l.i (characteristics_in l.tables))
-
-abbrev pub decreases-loop-i : goal.decreases-loop-i
-decreases-loop-i l = l.count - l.i
+invariant-loop-i l = (length l.kept ≡ 64) × (take l.i l.kept ≡ take l.i (characteristics_in l.tables))

@@ -10,22 +10,19 @@ pub loop-i-init : goal.loop-i-init
 loop-i-init c =
     let a = c.args in
     let w = a.tables.now in
-    (omega arith, scan-start a.start a.end a.from (characteristics_in w) a.count (omega (arith, length-characteristics w)), c.requires)
+    scan-start a.start a.end a.from (characteristics_in w) a.count (omega (arith, length-characteristics w))
 
 pub loop-i-preserved : goal.loop-i-preserved
 loop-i-preserved c =
     let l = c.loop-i in
     let a = c.args in
     let w = a.tables.now in
-    let e : l.i ≡ l.i - 1 + 1 = omega arith in (
-      omega arith,
-      scan_step a.start a.end a.from (characteristics_in w) a.count (omega (arith, length-characteristics w)) (l.i - 1) (omega arith)
-          l.s (rw e at l.invariant.1) _ c.characteristic_at-c.ensures _ c.scan_one-s.ensures,
-      l.invariant.2,
-    )
+    let e : l.i ≡ l.i - 1 + 1 = omega arith in
+    scan_step a.start a.end a.from (characteristics_in w) a.count (omega (arith, length-characteristics w)) (l.i - 1) (omega arith)
+          l.s (rw e at l.invariant) _ c.characteristic_at-c.ensures _ c.scan_one-s.ensures
 
 pub returns : goal.returns
 returns c =
     let l = c.loop-i in
     let e : l.i ≡ 0 = omega arith in
-    (rw e at l.invariant.1).best
+    (rw e at l.invariant).best

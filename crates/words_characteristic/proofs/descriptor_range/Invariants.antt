@@ -4,7 +4,4 @@ use Rattle.words_characteristic.proofs.ScanLaws.{Scanned}
 use Rattle.words_characteristic.proofs.descriptor_range.Given as goal
 
 abbrev pub invariant-loop-i : goal.invariant-loop-i
-invariant-loop-i l = (l.i ≤ l.count) × Scanned l.start l.end l.from (characteristics_in l.tables) l.count l.i l.s × (l.count ≤ 64)
-
-abbrev pub decreases-loop-i : goal.decreases-loop-i
-decreases-loop-i l = l.i
+invariant-loop-i l = Scanned l.start l.end l.from (characteristics_in l.tables) l.count l.i l.s

@@ -6,8 +6,5 @@ use Rattle.words.specs.Tables.{characteristics_in}
 use Rattle.words_characteristic.proofs.find_characteristic.Given as goal
 
 abbrev pub invariant-loop-i : goal.invariant-loop-i
-invariant-loop-i l = (l.i ≤ l.count) × (l.count ≤ 64)
-    × (characteristic_with l.uuid (take l.count (characteristics_in l.tables)) ≡ characteristic_with l.uuid (drop l.i (take l.count (characteristics_in l.tables))))
-
-abbrev pub decreases-loop-i : goal.decreases-loop-i
-decreases-loop-i l = l.count - l.i
+invariant-loop-i l =
+    characteristic_with l.uuid (take l.count (characteristics_in l.tables)) ≡ characteristic_with l.uuid (drop l.i (take l.count (characteristics_in l.tables)))

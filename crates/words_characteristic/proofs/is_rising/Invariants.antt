@@ -7,7 +7,4 @@ use Rattle.words.specs.Tables.{characteristics_in}
 use Rattle.words_characteristic.proofs.is_rising.Given as goal
 
 abbrev pub invariant-loop-i : goal.invariant-loop-i
-invariant-loop-i l = ((l.ok && up_from l.least (drop l.i (take l.count (characteristics_in l.tables)))) ≡ rises (take l.count (characteristics_in l.tables))) × (l.count ≤ 64)
-
-abbrev pub decreases-loop-i : goal.decreases-loop-i
-decreases-loop-i l = l.count - l.i
+invariant-loop-i l = (l.ok && up_from l.least (drop l.i (take l.count (characteristics_in l.tables)))) ≡ rises (take l.count (characteristics_in l.tables))

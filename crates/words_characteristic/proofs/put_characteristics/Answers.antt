@@ -7,19 +7,21 @@ use Rattle.words_characteristic.proofs.put_characteristics.Goals as goal
 
 pub loop-at-init : goal.loop-at-init
 loop-at-init c =
-    let g : length c.args.t.kept ≡ 64 = c.well_formed.1.0.1.1.0.1.0.1 in
-    (omega arith, c.requires, g, refl)
+    refl
 
 pub bounds-kept-at : goal.bounds-kept-at
-bounds-kept-at c = let l = c.loop-at in omega (arith, l.invariant.2)
+bounds-kept-at c =
+    let g : length c.args.t.kept ≡ 64 = c.well_formed.1.0.1.1.0.1.0.1 in
+    omega arith
 
 pub loop-at-preserved : goal.loop-at-preserved
 loop-at-preserved c =
     let l = c.loop-at in
-    (omega arith, l.invariant.1, l.invariant.2, write-on _ l.tables _ _ l.at l.invariant.2 (omega arith) l.invariant.3 c.put_characteristic.ensures)
+    let g : length c.args.t.kept ≡ 64 = c.well_formed.1.0.1.1.0.1.0.1 in
+    write-on _ l.tables _ _ l.at g (omega arith) l.invariant c.put_characteristic.ensures
 
 pub returns : goal.returns
 returns c =
     let l = c.loop-at in
     let e : l.at ≡ c.args.t.count = omega arith in
-    rw e at l.invariant.3
+    rw e at l.invariant

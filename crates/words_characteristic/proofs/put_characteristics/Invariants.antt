@@ -7,8 +7,5 @@ use Rattle.words.specs.Tables as all
 use Rattle.words_characteristic.proofs.put_characteristics.Given as goal
 
 abbrev pub invariant-loop-at : goal.invariant-loop-at
-invariant-loop-at l = (l.at ≤ l.count) × (l.count ≤ 64) × (length l.kept ≡ 64)
-    × (all.tables l.tables ≡ with_characteristics (all.tables l.initial.tables) (onto (characteristics_in l.initial.tables) (take l.at l.kept)))
-
-abbrev pub decreases-loop-at : goal.decreases-loop-at
-decreases-loop-at l = l.count - l.at
+invariant-loop-at l =
+    all.tables l.tables ≡ with_characteristics (all.tables l.initial.tables) (onto (characteristics_in l.initial.tables) (take l.at l.t.kept))

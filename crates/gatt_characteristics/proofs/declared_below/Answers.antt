@@ -2,7 +2,7 @@ use Rattle.std.proofs.Common.{rules, ltb, Bool}
 use Rattle.std.proofs.lemmas.List.Sorted.{IsPartitionPoint-from_clause}
 use Rattle.gatt_characteristics.specs.declared.Characteristic.{Characteristic}
 use Rattle.gatt_characteristics.proofs.RisingLaws.{parted, place-is}
-use Rattle.gatt_characteristics.proofs.place_of.Goals as goal
+use Rattle.gatt_characteristics.proofs.declared_below.Goals as goal
 
 pub returns-clause-place : goal.returns-clause-place
 returns-clause-place c =
