@@ -109,14 +109,13 @@ is-short w (inl e) p q = e
 is-short w (inr (inl e)) p q = absurd (q e)
 is-short w (inr (inr e)) p q = absurd (p e)
 
--- ---- the test of a UUID that was made of bytes
+-- ---- a UUID that was made of bytes
 
-module _ (s : List ℕ) (at w : ℕ) (v : Uuid) (u : ℕ) (inside : at + w ≤ length s) where
-  pub test-long : w ≡ 16 → v ≡ of_num (le_at 16 s at) → eqb (num v) u ≡ eqb (uuid_of w (take w (drop at s))) u
+module _ (s : List ℕ) (at w : ℕ) (v : Uuid) (inside : at + w ≤ length s) where
+  pub made-long : w ≡ 16 → v ≡ of_num (le_at 16 s at) → num v ≡ uuid_of w (take w (drop at s))
   unfolding uuid_of
-  test-long e h = rw (h, num_of, le_at-in 16 s at (omega arith), e)
+  made-long e h = rw (h, num_of, le_at-in 16 s at (omega arith), e)
 
-  pub test_short : (m n : ℕ) → w ≡ m → eqb m 16 ≡ false → v ≡ short_of n → n ≡ le_at m s at
-      → eqb (num v) u ≡ eqb (uuid_of w (take w (drop at s))) u
+  pub made_short : (m n : ℕ) → w ≡ m → eqb m 16 ≡ false → v ≡ short_of n → n ≡ le_at m s at → num v ≡ uuid_of w (take w (drop at s))
   unfolding uuid_of
-  test_short m n e f h g = rw (h, num_of, g, le_at-in m s at (omega arith), e, f)
+  made_short m n e f h g = rw (h, num_of, g, le_at-in m s at (omega arith), e, f)

@@ -1,7 +1,7 @@
 // The search of advertising data for a service: Core Vol 3 Part C 11, Core Supplement Part A 1.1.
 #![tactic(auto)]
 
-ghost use Rattle.std.specs.Prelude.{◌≡◌, ◌+◌, ◌≤◌, ◌<◌, length, take, drop, eqb};
+ghost use Rattle.std.specs.Prelude.{◌≡◌, ◌+◌, ◌≤◌, ◌<◌, length, take, drop, MatchOption};
 ghost use Rattle.uuid_value.specs.Value.{num};
 ghost use Rattle.bytes_base.specs.Choice.{pick};
 ghost use Rattle.adv_data.specs.Ad.{width_of, IsWidth, uuid_of, listed_place};
@@ -12,6 +12,7 @@ use uuid_value::Uuid;
 
 // What data tells of a service: where the body of the first structure stands that lists it; that it is not offered; or neither, since
 // a list is incomplete or the data is cut.
+// Kept: an enum of three answers, since absent and unknown differ and an Option has one None.
 #[derive(Clone, Copy)]
 pub enum Sought {
     Listed(Span),
@@ -42,30 +43,29 @@ const WIDTH_128: usize = 16;
 // A structure begins with its length and its kind.
 pub const HEADER: usize = 2;
 
-// How many bytes each UUID of a structure of this kind has, or 0 where it lists none.
-fn width_of(kind: u8) -> usize
-    ensures { result ≡ width_of kind }
+// How many bytes each UUID of a structure of this kind has, if it lists any.
+// Kept: kinds are numbers, since a kind is a byte that anyone sends, and most of them have no name here.
+fn width_of(kind: u8) -> Option<usize>
+    ensures { MatchOption result (width_of kind ≡ 0) (λ w. (w ≡ width_of kind) × (0 < w)) }
 {
     match kind {
-        INCOMPLETE_16 | COMPLETE_16 => WIDTH_16,
-        INCOMPLETE_32 | COMPLETE_32 => WIDTH_32,
-        INCOMPLETE_128 | COMPLETE_128 => WIDTH_128,
-        _ => 0,
+        INCOMPLETE_16 | COMPLETE_16 => Some(WIDTH_16),
+        INCOMPLETE_32 | COMPLETE_32 => Some(WIDTH_32),
+        INCOMPLETE_128 | COMPLETE_128 => Some(WIDTH_128),
+        _ => None,
     }
 }
 
-// Whether the UUID of so many bytes at a place is the one that is sought.
-fn equal_at(data: &[u8], at: usize, width: usize, uuid: Uuid) -> bool
+// The UUID of so many bytes at a place.
+fn uuid_at(data: &[u8], at: usize, width: usize) -> Uuid
     requires { (at + width ≤ length «data».now) × IsWidth width }
-    ensures { result ≡ eqb (uuid_of width (take width (drop at «data».now))) (num uuid) }
+    ensures { num result ≡ uuid_of width (take width (drop at «data».now)) }
 {
-    if width == WIDTH_128 {
-        return Uuid::from_128(data, at) == uuid;
+    match width {
+        WIDTH_128 => Uuid::from_128(data, at),
+        WIDTH_32 => Uuid::from(bytes_numbers::le32(data, at)),
+        _ => Uuid::from(bytes_numbers::le16(data, at)),
     }
-    if width == WIDTH_32 {
-        return Uuid::from(bytes_numbers::le32(data, at)) == uuid;
-    }
-    Uuid::from(bytes_numbers::le16(data, at)) == uuid
 }
 
 // What is known behind a list of this kind that does not have the service. Each width has an even kind for an incomplete list.
@@ -85,6 +85,7 @@ pub fn seek(data: &[u8], uuid: Uuid) -> Sought
 {
     let mut answer = Sought::Absent;
     let mut at: usize = 0;
+    // Kept: a while, since the step differs from turn to turn; a for would carry the place in a second local.
     'structures: while at < data.len() {
         let len = data[at] as usize;
         if len == 0 {
@@ -97,12 +98,12 @@ pub fn seek(data: &[u8], uuid: Uuid) -> Sought
         let body = at + HEADER;
         let next = at + 1 + len;
         let kind = data[at + 1];
-        let width = width_of(kind);
-        if 0 < width {
+        if let Some(width) = width_of(kind) {
             answer = passed(kind, answer);
             let mut i = body;
+            // Kept: the place of a UUID is counted, since the label leaves both loops from here.
             while width <= next - i {
-                if equal_at(data, i, width, uuid) {
+                if uuid_at(data, i, width) == uuid {
                     answer = Sought::Listed(Span {
                         at: body,
                         len: len - 1,

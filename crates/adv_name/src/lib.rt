@@ -2,6 +2,7 @@
 #![tactic(auto)]
 
 ghost use Rattle.std.specs.Prelude.{◌≡◌};
+ghost use Rattle.bytes_base.specs.Choice.{within};
 ghost use Rattle.adv_name.specs.Name.{local_name};
 
 use bytes_bounds::Span;
@@ -11,11 +12,19 @@ const SHORTENED_NAME: u8 = 0x08;
 
 const COMPLETE_NAME: u8 = 0x09;
 
+// Whether a structure of this kind carries the local name.
+fn is_name(kind: u8) -> bool
+    ensures { result ≡ within 0x08 0x09 kind }
+{
+    (SHORTENED_NAME..=COMPLETE_NAME).contains(&kind)
+}
+
 // Where the local name stands: the body of the first structure that carries one, unless that is no UTF-8.
 pub fn ad_local_name(data: &[u8]) -> Option<Span>
     ensures { result ≡ local_name «data».now }
 {
     let mut at: usize = 0;
+    // Kept: a while, since the step differs from turn to turn; a for would carry the place in a second local.
     while at < data.len() {
         let len = data[at] as usize;
         if len == 0 {
@@ -24,10 +33,9 @@ pub fn ad_local_name(data: &[u8]) -> Option<Span>
         if data.len() - at <= len {
             return None;
         }
-        let kind = data[at + 1];
         let body = at + adv_data::HEADER;
         let next = at + 1 + len;
-        if (SHORTENED_NAME <= kind) & (kind <= COMPLETE_NAME) {
+        if is_name(data[at + 1]) {
             if utf8::is_utf8(&data[body..next]) {
                 return Some(Span {
                     at: body,

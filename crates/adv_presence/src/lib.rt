@@ -50,12 +50,14 @@ pub fn service_presence(data: &[u8], response: &[u8], uuid: Uuid) -> Presence
 }
 
 // The number that C gets.
-pub fn presence_number(x: Presence) -> u32
-    ensures { result ≡ presence_number x }
-{
-    match x {
-        Presence::Absent => 0,
-        Presence::Listed => 1,
-        Presence::Unknown => 2,
+impl From<Presence> for u32 {
+    ghost from_gives = { λ x n. n ≡ presence_number x };
+
+    fn from(x: Presence) -> u32 {
+        match x {
+            Presence::Absent => 0,
+            Presence::Listed => 1,
+            Presence::Unknown => 2,
+        }
     }
 }

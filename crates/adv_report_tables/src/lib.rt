@@ -9,26 +9,26 @@ ghost use Rattle.adv_report_tables.specs.Tables.{block_at, counted};
 pub fn last_place(i: usize) -> usize
     ensures { result ≡ last_place i }
 {
-    if i < adv_reports::LAST {
-        return i;
-    }
-    adv_reports::LAST
+    usize::min(i, adv_reports::LAST)
 }
 
 // How many there are, with one at place i.
+#[tactic(auto, unfolding(crate::specs::Tables::counted))]
 pub fn counted(count: usize, i: usize) -> usize
     ensures { result ≡ counted count i }
 {
     if i < count {
-        return count;
+        count
+    } else if count < state_places::MAX_REPORTS {
+        count + 1
+    } else {
+        state_places::MAX_REPORTS
     }
-    if count < state_places::MAX_REPORTS {
-        return count + 1;
-    }
-    state_places::MAX_REPORTS
 }
 
 // The advertising data.
+// Kept: store, place and data apart, since each has another owner and a struct would be made for one call.
+#[tactic(auto, unfolding(crate::specs::Tables::block_at))]
 pub fn put_block(store: &mut [u8], i: usize, data: &[u8])
     ensures { store.new ≡ block_at store.old i «data».now }
 {

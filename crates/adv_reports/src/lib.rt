@@ -22,19 +22,19 @@ const RANDOM: u64 = 281_474_976_710_656;
 pub const LAST: usize = state_places::MAX_REPORTS - 1;
 
 // An address and its type as one number.
+// Kept: a function by name, since `u64::from(a)` would not say which number of an address it is.
+#[tactic(auto, unfolding(crate::specs::Key::key))]
 pub fn key_of(a: Address) -> u64
     ensures { result ≡ key a }
 {
     let low = a.low as u64;
     let high = a.high as u64;
     let plain = low + HIGH * high;
-    if a.random {
-        return plain + RANDOM;
-    }
-    plain
+    if a.random { plain + RANDOM } else { plain }
 }
 
 // The address of a number.
+#[tactic(auto, unfolding(crate::specs::Key::address_of))]
 pub fn address_of(key: u64) -> Address
     ensures { result ≡ address_of key }
 {
@@ -48,6 +48,7 @@ pub fn address_of(key: u64) -> Address
 }
 
 // The advertising data of report i.
+// Kept: beside put_response, since what both share is copy_in, which each calls; and with its bound, which each caller has just tested.
 pub fn put_data(store: &mut [u8], i: usize, data: &[u8])
     requires { i < most_reports }
     ensures { store.new ≡ again_store i «data».now store.old }
@@ -66,6 +67,7 @@ pub fn put_response(store: &mut [u8], i: usize, data: &[u8])
 }
 
 // The block of the oldest report goes, the others move down by one.
+#[tactic(auto, unfolding(lists::specs::Blocks::lowered))]
 pub fn drop_block(store: &mut [u8])
     ensures { store.new ≡ lowered report_part store.old }
 {

@@ -31,13 +31,13 @@ pub advertised-refusal : (why : ℕ) (a : AdvAction) → refusal_in (advertised_
 unfolding refusal_in
 advertised-refusal why action.Nothing = refl
 advertised-refusal why action.ScanRequest = refl
-advertised-refusal why (action.Connect interval latency timeout) = refl
+advertised-refusal why (action.Connect p) = refl
 
 pub advertised-action : (why : ℕ) (a : AdvAction) → action_in (advertised_words why a) ≡ a
 unfolding action_in
 advertised-action why action.Nothing = refl
 advertised-action why action.ScanRequest = refl
-advertised-action why (action.Connect interval latency timeout) = refl
+advertised-action why (action.Connect p) = refl
 
 -- what was sent, with its request named
 pub answer-law : (why : ℕ) (s : Sent) (q : Option LinkRequest) → s.request ≡ q

@@ -38,9 +38,9 @@ refusal_words why = why ∷ 0 ∷ 0 ∷ 0 ∷ 0 ∷ 0 ∷ 0 ∷ 0 ∷ []
 abbrev pub advertised_words : ℕ → AdvAction → List ℕ
 advertised_words why action.Nothing = why ∷ 0 ∷ 0 ∷ 0 ∷ 0 ∷ 0 ∷ 0 ∷ 0 ∷ []
 advertised_words why action.ScanRequest = why ∷ 1 ∷ 0 ∷ 0 ∷ 0 ∷ 0 ∷ 0 ∷ 0 ∷ []
-advertised_words why (action.Connect interval latency timeout) = why ∷ 2 ∷ interval ∷ latency ∷ timeout ∷ 0 ∷ 0 ∷ 0 ∷ []
+advertised_words why (action.Connect p) = why ∷ 2 ∷ p.interval ∷ p.latency ∷ p.timeout ∷ 0 ∷ 0 ∷ 0 ∷ []
 
 unfoldable pub action_in : List ℕ → AdvAction
 action_in w =
     pick (eqb (get_or w 1 0) 0) action.Nothing
-    (pick (eqb (get_or w 1 0) 1) action.ScanRequest (action.Connect (get_or w 2 0) (get_or w 3 0) (get_or w 4 0)))
+    (pick (eqb (get_or w 1 0) 1) action.ScanRequest (action.Connect (record { interval = get_or w 2 0; latency = get_or w 3 0; timeout = get_or w 4 0 })))

@@ -75,16 +75,12 @@ pub fn advertised_words(refusal: u8, action: AdvAction) -> [u64; 8]
     match action {
         AdvAction::Nothing => [why, NOTHING, 0, 0, 0, 0, 0, 0],
         AdvAction::ScanRequest => [why, SCAN_REQUEST, 0, 0, 0, 0, 0, 0],
-        AdvAction::Connect {
-            interval,
-            latency,
-            timeout,
-        } => [
+        AdvAction::Connect(p) => [
             why,
             CONNECT,
-            interval as u64,
-            latency as u64,
-            timeout as u64,
+            p.interval as u64,
+            p.latency as u64,
+            p.timeout as u64,
             0,
             0,
             0,
@@ -248,7 +244,7 @@ pub fn sighting_words(x: Result<Option<Presence>, Refusal>) -> [u64; 8]
         Err(why) => refusal_words(why.number()),
         Ok(None) => [0; 8],
         Ok(Some(presence)) => {
-            let number = adv_presence::presence_number(presence);
+            let number = u32::from(presence);
             [0, THERE, number as u64, 0, 0, 0, 0, 0]
         }
     }

@@ -18,6 +18,7 @@ pub fn barleyrope_lists_service(data: &[u8], low: u64, high: u64) -> bool
 }
 
 // Where the body of the first structure that lists the service stands; both places keep what they held where none does.
+// Kept: a flag and two lent places, since C calls it.
 pub fn barleyrope_find_service(
     data: &[u8],
     low: u64,
@@ -44,10 +45,11 @@ pub fn barleyrope_service_presence(data: &[u8], response: &[u8], low: u64, high:
     ensures { result ≡ presence_number (presence_in (low + 2 ^ 64 * high) «data».now response.now) }
 {
     let uuid = Uuid { low, high };
-    adv_presence::presence_number(adv_presence::service_presence(data, response, uuid))
+    u32::from(adv_presence::service_presence(data, response, uuid))
 }
 
 // Whether the four numbers of a connection parameter update request are acceptable.
+// Kept: four numbers and no Request, since C calls it.
 pub fn barleyrope_params_good(min: u16, max: u16, latency: u16, timeout: u16) -> bool
     ensures { result ≡ good_params min max latency timeout }
 {

@@ -1,14 +1,14 @@
 -- The rule of numbers is the rule of the specification, in hundredths of a millisecond.
 use Prim.Native.Nat.{ℕ, ◌+◌, ◌*◌, ◌≤◌, ◌<◌}
 use mathlib.Core.Path.{◌≡◌}
-use mathlib.Core.Bool.{true}
+use mathlib.Core.Bool.{Bool, true, ◌&&◌, and_assoc}
 use native.Mathlib.Omega.{arith}
 use native.Mathlib.Nat.{mul_left_comm}
 use lib.Dec.{leb}
 use borrow.Author.Tests.{leb-true, ltb-true, le-leb, lt-ltb}
 use Rattle.bytes_base.specs.Choice.{within}
 use Rattle.bytes_base.proofs.TestLaws.{both}
-use Rattle.l2cap_params.specs.Params.{interval_in_range, latency_in_range, timeout_in_range, good_params}
+use Rattle.l2cap_params.specs.Params.{interval_in_range, latency_in_range, timeout_in_range, outlasts, good_params}
 
 -- hundredths of a millisecond: an interval's unit is 1.25 ms, a timeout's is 10 ms
 abbrev pub interval_time : ℕ → ℕ
@@ -76,3 +76,9 @@ acceptable-is-good min max latency timeout a =
       le-leb timeout 3200 (omega arith),
       lt-ltb ((1 + latency) * max) (4 * timeout) (omega arith),
     )
+
+-- the tests one after another are the rule
+pub good-by : (min max latency timeout : ℕ) (a b t : Bool) → a ≡ interval_in_range min → b ≡ interval_in_range max → t ≡ timeout_in_range timeout
+    → (((((a && b) && leb min max) && latency_in_range latency) && t) && outlasts timeout latency max) ≡ good_params min max latency timeout
+unfolding good_params
+good-by min max latency timeout a b t p q r = rw (p, q, r) (simp and_assoc)

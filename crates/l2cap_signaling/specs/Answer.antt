@@ -1,11 +1,10 @@
 -- What goes back for a payload of the signaling channel (Core Vol 3 Part A 4) and of the security manager channel (Part H 3.5.5).
-use Rattle.std.specs.Prelude.{ℕ, Bool, not, ◌&&◌, List, [], ◌∷◌, ◌++◌, length, take, get_or, leb, eqb}
+use Rattle.std.specs.Prelude.{ℕ, Bool, not, ◌&&◌, List, [], ◌∷◌, ◌++◌, length, get_or, leb, eqb, Option, Some, None, unwrap_or}
 use Rattle.bytes_base.specs.Choice.{pick, among}
 use Rattle.bytes_base.specs.Bytes.{le_bytes, le_at}
 use Rattle.l2cap_params.specs.Params.{good_params}
-use Rattle.l2cap_signaling.specs.declared.Update.TheVariants.{Nothing, To}
+use Rattle.l2cap_params.specs.declared.Parameters.{Parameters}
 use Rattle.l2cap_signaling.specs.declared.SignalingAnswer.{SignalingAnswer}
-use Rattle.l2cap_signaling.specs.declared.SmpAnswer.{SmpAnswer}
 use Rattle.l2cap_signaling.specs.Numbers.{command_reject_rsp, parameter_update_req, parameter_update_rsp, unanswered, pairing_failed, pairing_not_supported}
 
 -- Part A 4: a code, the identifier of the request, the length of the data, the data
@@ -21,15 +20,15 @@ abbrev pub parameter_response : ℕ → Bool → List ℕ
 parameter_response id good = command parameter_update_rsp id (le_bytes 2 (pick good 0x0000 0x0001))
 
 abbrev pub silence : SignalingAnswer
-silence = record { len = 0; bytes = 0 ∷ 0 ∷ 0 ∷ 0 ∷ 0 ∷ 0 ∷ []; update = Nothing }
+silence = record { reply = None; update = None }
 
 abbrev pub rejection : ℕ → SignalingAnswer
-rejection id = record { len = 6; bytes = command_reject id; update = Nothing }
+rejection id = record { reply = Some (command_reject id); update = None }
 
 -- Part A 4.20: parameters that are good are for the link layer too, with the longest interval that the peripheral allows
 abbrev pub parameter_answer : ℕ → Bool → ℕ → ℕ → ℕ → SignalingAnswer
 parameter_answer id good max latency timeout =
-    record { len = 6; bytes = parameter_response id good; update = pick good (To max latency timeout) Nothing }
+    record { reply = Some (parameter_response id good); update = pick good (Some (record { interval = max; latency = latency; timeout = timeout })) None }
 
 -- Part A 4.20: interval min and max, latency and timeout, each in two bytes after the packet's four
 abbrev pub parameter_request : ℕ → List ℕ → SignalingAnswer
@@ -48,19 +47,19 @@ unfoldable pub signaling_answer : List ℕ → SignalingAnswer
 signaling_answer pdu = pick (leb 2 (length pdu)) (code_answer (get_or pdu 0 0) (get_or pdu 1 0) pdu) silence
 
 -- Part H 3.5.5: pairing failed, and the reason
-abbrev pub smp_refusal : SmpAnswer
-smp_refusal = record { len = 2; bytes = pairing_failed ∷ pairing_not_supported ∷ [] }
+abbrev pub smp_refusal : Option (List ℕ)
+smp_refusal = Some (pairing_failed ∷ pairing_not_supported ∷ [])
 
-abbrev pub smp_silence : SmpAnswer
-smp_silence = record { len = 0; bytes = 0 ∷ 0 ∷ [] }
+abbrev pub smp_silence : Option (List ℕ)
+smp_silence = None
 
 -- every command but pairing failed is told that pairing is not supported
-unfoldable pub smp_answer : List ℕ → SmpAnswer
+unfoldable pub smp_answer : List ℕ → Option (List ℕ)
 smp_answer pdu = pick (leb 1 (length pdu) && not (eqb (get_or pdu 0 0) pairing_failed)) smp_refusal smp_silence
 
--- the payloads that go back
+-- the payloads that go back: no bytes where nothing does
 abbrev pub signaling_payload : SignalingAnswer → List ℕ
-signaling_payload a = take a.len a.bytes
+signaling_payload a = unwrap_or a.reply []
 
-abbrev pub smp_payload : SmpAnswer → List ℕ
-smp_payload a = take a.len a.bytes
+abbrev pub smp_payload : Option (List ℕ) → List ℕ
+smp_payload a = unwrap_or a []

@@ -1,4 +1,5 @@
 // Codes of signaling packets, Core Vol 3 Part A 4.
+// Kept: numbers, since a code is a byte that the peer sends, and most of them have no name here.
 pub const COMMAND_REJECT_RSP: u8 = 0x01;
 
 pub const DISCONNECTION_RSP: u8 = 0x07;

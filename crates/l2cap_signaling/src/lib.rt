@@ -7,6 +7,8 @@ ghost use Rattle.l2cap_signaling.specs.Answer.{command, silence, rejection, para
 
 pub mod code;
 
+use l2cap_params::{Parameters, Request};
+
 // Data bytes of every answer on the signaling channel: a reason or a result.
 const DATA: u8 = 2;
 
@@ -25,30 +27,11 @@ const PAIRING_FAILED: u8 = 0x05;
 
 const PAIRING_NOT_SUPPORTED: u8 = 0x05;
 
-// New connection parameters for the link layer.
-#[derive(Clone, Copy)]
-pub enum Update {
-    Nothing,
-    To {
-        interval: u16,
-        latency: u16,
-        timeout: u16,
-    },
-}
-
-// The first len bytes go back on the signaling channel; none where len is 0.
+// What goes back on the signaling channel, if anything does, and the parameters that the link layer is to take, if there are any.
 #[derive(Clone, Copy)]
 pub struct SignalingAnswer {
-    pub len: usize,
-    pub bytes: [u8; 6],
-    pub update: Update,
-}
-
-// The first len bytes go back on the security manager channel; none where len is 0.
-#[derive(Clone, Copy)]
-pub struct SmpAnswer {
-    pub len: usize,
-    pub bytes: [u8; 2],
+    pub reply: Option<[u8; 6]>,
+    pub update: Option<Parameters>,
 }
 
 fn command(code: u8, id: u8, number: u16) -> [u8; 6]
@@ -68,20 +51,18 @@ fn silence() -> SignalingAnswer
     ensures { result ≡ silence }
 {
     SignalingAnswer {
-        len: 0,
-        bytes: [0; 6],
-        update: Update::Nothing,
+        reply: None,
+        update: None,
     }
 }
 
 fn rejection(id: u8) -> SignalingAnswer
     ensures { result ≡ rejection id }
 {
-    let bytes = command(code::COMMAND_REJECT_RSP, id, NOT_UNDERSTOOD);
+    let reject = command(code::COMMAND_REJECT_RSP, id, NOT_UNDERSTOOD);
     SignalingAnswer {
-        len: 6,
-        bytes,
-        update: Update::Nothing,
+        reply: Some(reject),
+        update: None,
     }
 }
 
@@ -89,28 +70,29 @@ fn rejection(id: u8) -> SignalingAnswer
 fn parameter_answer(id: u8, pdu: &[u8]) -> SignalingAnswer
     ensures { result ≡ parameter_request id pdu.now }
 {
-    let min = bytes_numbers::le16(pdu, 4);
-    let max = bytes_numbers::le16(pdu, 6);
-    let latency = bytes_numbers::le16(pdu, 8);
-    let timeout = bytes_numbers::le16(pdu, 10);
-    if l2cap_params::params_good(min, max, latency, timeout) {
-        let bytes = command(code::PARAMETER_UPDATE_RSP, id, ACCEPTED);
+    let request = Request {
+        min: bytes_numbers::le16(pdu, 4),
+        max: bytes_numbers::le16(pdu, 6),
+        latency: bytes_numbers::le16(pdu, 8),
+        timeout: bytes_numbers::le16(pdu, 10),
+    };
+    if request.is_good() {
+        let accepted = command(code::PARAMETER_UPDATE_RSP, id, ACCEPTED);
+        // The central takes the longest interval that the peripheral allows.
+        let update = Parameters {
+            interval: request.max,
+            latency: request.latency,
+            timeout: request.timeout,
+        };
         return SignalingAnswer {
-            len: 6,
-            bytes,
-            // The central takes the longest interval that the peripheral allows.
-            update: Update::To {
-                interval: max,
-                latency,
-                timeout,
-            },
+            reply: Some(accepted),
+            update: Some(update),
         };
     }
-    let bytes = command(code::PARAMETER_UPDATE_RSP, id, REJECTED);
+    let rejected = command(code::PARAMETER_UPDATE_RSP, id, REJECTED);
     SignalingAnswer {
-        len: 6,
-        bytes,
-        update: Update::Nothing,
+        reply: Some(rejected),
+        update: None,
     }
 }
 
@@ -146,20 +128,14 @@ pub fn on_signaling(pdu: &[u8]) -> SignalingAnswer
     on_code(pdu[0], pdu[1], pdu)
 }
 
-// What a payload of the security manager channel is answered with.
-pub fn on_smp(pdu: &[u8]) -> SmpAnswer
+// What goes back for a payload of the security manager channel, if anything does.
+pub fn on_smp(pdu: &[u8]) -> Option<[u8; 2]>
     ensures { result ≡ smp_answer pdu.now }
 {
     if 0 < pdu.len() {
         if pdu[0] != PAIRING_FAILED {
-            return SmpAnswer {
-                len: 2,
-                bytes: [PAIRING_FAILED, PAIRING_NOT_SUPPORTED],
-            };
+            return Some([PAIRING_FAILED, PAIRING_NOT_SUPPORTED]);
         }
     }
-    SmpAnswer {
-        len: 0,
-        bytes: [0; 2],
-    }
+    None
 }

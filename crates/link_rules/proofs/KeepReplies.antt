@@ -16,9 +16,9 @@ use Rattle.l2cap.specs.Numbers.{cid_att, cid_signaling, cid_smp}
 use Rattle.att_pdu.specs.Pdu.{att_error, exchange_mtu_rsp, confirmation}
 use Rattle.att_pdu.proofs.PduLaws.{length-att_error, length-exchange_mtu_rsp}
 use Rattle.l2cap_signaling.specs.Answer.{signaling_answer, smp_answer}
-use Rattle.l2cap_signaling.proofs.AnswerLaws.{signaling-sized, smp-sized}
-use Rattle.l2cap_signaling.specs.declared.Update as update
-use Rattle.l2cap_signaling.specs.declared.Update.TheVariants as update-variants
+use Rattle.l2cap_signaling.proofs.AnswerLaws.{Sized, signaling-sized, smp-sized}
+use Rattle.l2cap_params.specs.declared.Parameters.{Parameters}
+use Rattle.std.specs.Prelude.{Option, Some, None}
 use Rattle.notifications.specs.Kept.{live, values_fit, links_fit, keeping}
 use Rattle.notifications.proofs.KeptLaws.{live-keeping, length-kept}
 use Rattle.notifications.specs.declared.Notification.{Notification}
@@ -40,29 +40,26 @@ use Rattle.link_rules.proofs.KeepWork.{goes-told}
 -- ---- signaling and security manager, and the requests that are refused: something goes out, and that is all
 
 -- a link request is no frame
-ready-asks : (k : ℕ) (w : World) (t : Told) (u : update.Update) → Ready k (on_told w t) → Ready k (on_told w (asks_update t u))
-ready-asks k w t update-variants.Nothing r = r
-ready-asks k w t (update-variants.To interval latency timeout) r = record { store = r.store; out = r.out; results = r.results; frames = r.frames; bytes = r.bytes }
+ready-asks : (k : ℕ) (w : World) (t : Told) (u : Option Parameters) → Ready k (on_told w t) → Ready k (on_told w (asks_update t u))
+ready-asks k w t None r = r
+ready-asks k w t (Some p) r = record { store = r.store; out = r.out; results = r.results; frames = r.frames; bytes = r.bytes }
 
 module _ (k : ℕ) (w : World) (few : k ≤ 64) (ready : Ready k w) where
-  ready-reply : (channel n : ℕ) (answer : List ℕ) → length answer ≤ 247 → Ready (k + 1) (on_told w (reply w.told channel n answer))
+  ready-reply : (channel size : ℕ) (answer : Option (List ℕ)) → Sized size answer → size ≤ 247 → Ready (k + 1) (on_told w (reply w.told channel answer))
   unfolding reply
-  ready-reply channel n answer short = go (eqb n 0)
-    where
-      go : (b : Bool) → Ready (k + 1) (on_told w (pick b w.told (send w.told channel (take n answer))))
-      go true = ready-more k (k + 1) w ready (omega arith)
-      go false = ready-send k w channel (take n answer) ready few (omega (arith, length-take n answer))
+  ready-reply channel size None sized short = ready-more k (k + 1) w ready (omega arith)
+  ready-reply channel size (Some answer) sized short = ready-send k w channel answer ready few (omega (arith, sized))
 
   ready-signaling : (pdu : List ℕ) → Ready (k + 1) (on_told w (on_signaling w.told pdu))
   unfolding on_signaling
   ready-signaling pdu =
       let a = signaling_answer pdu in
-      ready-asks (k + 1) w (reply w.told cid_signaling a.len a.bytes) a.update
-      (ready-reply cid_signaling a.len a.bytes (omega (arith, (signaling-sized pdu).whole)))
+      ready-asks (k + 1) w (reply w.told cid_signaling a.reply) a.update
+      (ready-reply cid_signaling 6 a.reply (signaling-sized pdu) (omega arith))
 
   ready-smp : (pdu : List ℕ) → Ready (k + 1) (on_told w (on_smp w.told pdu))
   unfolding on_smp
-  ready-smp pdu = let a = smp_answer pdu in ready-reply cid_smp a.len a.bytes (omega (arith, (smp-sized pdu).whole))
+  ready-smp pdu = ready-reply cid_smp 2 (smp_answer pdu) (smp-sized pdu) (omega arith)
 
   ready-refuse : (opcode handle code : ℕ) → Ready (k + 1) (on_told w (refuse w.told opcode handle code))
   unfolding refuse

@@ -1,13 +1,12 @@
 -- What goes back to the peer for a frame that is no response (Core Vol 3 Part A 4, Part H 3.5.5, Part F 3.4; 01, 'Rules of the link').
-use Rattle.std.specs.Prelude.{ℕ, ◌+◌, ◌-◌, max, min, Bool, true, false, List, Some, take, eqb}
+use Rattle.std.specs.Prelude.{ℕ, ◌+◌, ◌-◌, max, min, Bool, true, false, List, Option, Some, None}
 use Rattle.bytes_base.specs.Choice.{pick}
 use Rattle.bytes_base.specs.Bytes.{le_at}
 use Rattle.time.specs.declared.Micros.{Micros}
 use Rattle.l2cap.specs.Numbers.{cid_att, cid_signaling, cid_smp}
 use Rattle.att_pdu.specs.Pdu.{att_error, exchange_mtu_rsp, confirmation}
 use Rattle.l2cap_signaling.specs.Answer.{signaling_answer, smp_answer}
-use Rattle.l2cap_signaling.specs.declared.Update as update
-use Rattle.l2cap_signaling.specs.declared.Update.TheVariants as update-variants
+use Rattle.l2cap_params.specs.declared.Parameters.{Parameters}
 use Rattle.notifications.specs.Kept.{keeping, kept_value}
 use Rattle.state_rules.specs.Steps.{default_mtu, most_mtu}
 use Rattle.state.specs.Central.{with_counters, with_notifications}
@@ -20,21 +19,22 @@ pub use Rattle.link_rules.specs.Notices.{noted}
 
 -- ---- signaling and security manager
 
--- the first n of some bytes go back, where there are any
-unfoldable pub reply : Told → ℕ → ℕ → List ℕ → Told
-reply t channel n answer = pick (eqb n 0) t (send t channel (take n answer))
+-- what goes back, where anything does
+unfoldable pub reply : Told → ℕ → Option (List ℕ) → Told
+reply t channel None = t
+reply t channel (Some answer) = send t channel answer
 
 -- parameters that are good are for the link layer too
-abbrev pub asks_update : Told → update.Update → Told
-asks_update t update-variants.Nothing = t
-asks_update t (update-variants.To interval latency timeout) =
-    record { sent = record { frames = t.sent.frames; bytes = t.sent.bytes; request = Some (Update interval latency timeout) }; out = t.out }
+abbrev pub asks_update : Told → Option Parameters → Told
+asks_update t None = t
+asks_update t (Some p) =
+    record { sent = record { frames = t.sent.frames; bytes = t.sent.bytes; request = Some (Update p.interval p.latency p.timeout) }; out = t.out }
 
 unfoldable pub on_signaling : Told → List ℕ → Told
-on_signaling t pdu = let a = signaling_answer pdu in asks_update (reply t cid_signaling a.len a.bytes) a.update
+on_signaling t pdu = let a = signaling_answer pdu in asks_update (reply t cid_signaling a.reply) a.update
 
 unfoldable pub on_smp : Told → List ℕ → Told
-on_smp t pdu = let a = smp_answer pdu in reply t cid_smp a.len a.bytes
+on_smp t pdu = reply t cid_smp (smp_answer pdu)
 
 -- ---- the peer's requests
 

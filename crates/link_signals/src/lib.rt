@@ -8,38 +8,34 @@ ghost use Rattle.script_rules.specs.Send.{Room};
 ghost use Rattle.link_rules.specs.Payload.{payload_at};
 ghost use Rattle.link_rules.specs.Replies.{reply, asks_update, on_signaling, on_smp, refuse};
 
-use l2cap_signaling::Update;
+use l2cap_params::Parameters;
 use link_payload::PAYLOAD_AT;
 use state::{LinkRequest, Sent};
 
-// The first n bytes of an answer go back, where there are any.
-fn reply(sent: Sent, out: &mut [u8], channel: u16, answer: &[u8], n: usize) -> Sent
-    requires { Room sent (length out.old) n × (n ≤ length answer.now) }
-    ensures { told result out.new ≡ reply (told sent out.old) channel n answer.now }
+// What goes back, where anything does.
+fn reply<const N: usize>(sent: Sent, out: &mut [u8], channel: u16, answer: Option<[u8; N]>) -> Sent
+    requires { Room sent (length out.old) N }
+    ensures { told result out.new ≡ reply (told sent out.old) channel answer.entry }
 {
-    if n == 0 {
-        return sent;
+    match answer {
+        None => sent,
+        Some(bytes) => script_sends::send(sent, out, channel, &bytes),
     }
-    script_sends::send(sent, out, channel, &answer[0..n])
 }
 
 // Parameters that are good are for the link layer too.
-fn ask_update(sent: Sent, update: Update) -> Sent
+fn ask_update(sent: Sent, update: Option<Parameters>) -> Sent
     ensures { (o : List ℕ) → told result o ≡ asks_update (told sent o) update }
 {
     match update {
-        Update::Nothing => sent,
-        Update::To {
-            interval,
-            latency,
-            timeout,
-        } => Sent {
+        None => sent,
+        Some(taken) => Sent {
             frames: sent.frames,
             bytes: sent.bytes,
             request: Some(LinkRequest::Update {
-                interval,
-                latency,
-                timeout,
+                interval: taken.interval,
+                latency: taken.latency,
+                timeout: taken.timeout,
             }),
         },
     }
@@ -51,11 +47,9 @@ pub fn on_signaling(sent: Sent, out: &mut [u8], store: &[u8], n: usize) -> Sent
     ensures { told result out.new ≡ on_signaling (told sent out.old) (bytes store.now payload_at n) }
 {
     let end = PAYLOAD_AT + n;
-    let a = l2cap_signaling::on_signaling(&store[PAYLOAD_AT..end]);
-    let answer = a.bytes;
-    let update = a.update;
-    let told = reply(sent, out, l2cap::cid::SIGNALING, &answer, a.len);
-    ask_update(told, update)
+    let answer = l2cap_signaling::on_signaling(&store[PAYLOAD_AT..end]);
+    let told = reply(sent, out, l2cap::cid::SIGNALING, answer.reply);
+    ask_update(told, answer.update)
 }
 
 // A payload of n bytes of the security manager channel.
@@ -64,9 +58,8 @@ pub fn on_smp(sent: Sent, out: &mut [u8], store: &[u8], n: usize) -> Sent
     ensures { told result out.new ≡ on_smp (told sent out.old) (bytes store.now payload_at n) }
 {
     let end = PAYLOAD_AT + n;
-    let a = l2cap_signaling::on_smp(&store[PAYLOAD_AT..end]);
-    let answer = a.bytes;
-    reply(sent, out, l2cap::cid::SMP, &answer, a.len)
+    let answer = l2cap_signaling::on_smp(&store[PAYLOAD_AT..end]);
+    reply(sent, out, l2cap::cid::SMP, answer)
 }
 
 // None is served.

@@ -137,16 +137,8 @@ pub fn on_advertising(
         return central_answers::done(o, AdvAction::ScanRequest);
     }
     let step = running.step;
-    let action = radio_match::choose(
-        step,
-        key,
-        store,
-        kept.place,
-        kept.response,
-        data,
-        pdu,
-        to_central,
-    );
+    let response = radio_match::response_of(store, kept.place, kept.response);
+    let action = radio_match::choose(step, key, data, response, pdu, to_central);
     central_answers::done(o, action)
 }
 

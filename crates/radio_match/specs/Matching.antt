@@ -54,7 +54,7 @@ reaches (target.Service u) who bytes response = lists_service (num u) bytes || l
 unfoldable pub chosen : Step → ℕ → List ℕ → List ℕ → ℕ → Bool → AdvAction
 chosen (Scan ms) who bytes response pdu us = action.Nothing
 chosen (Connect target interval latency timeout ms) who bytes response pdu us =
-    pick (connectable pdu us && reaches target who bytes response) (action.Connect interval latency timeout) action.Nothing
+    pick (connectable pdu us && reaches target who bytes response) (action.Connect (record { interval = interval; latency = latency; timeout = timeout })) action.Nothing
 chosen (ExchangeMtu mtu) who bytes response pdu us = action.Nothing
 chosen DiscoverServices who bytes response pdu us = action.Nothing
 chosen (DiscoverCharacteristics service) who bytes response pdu us = action.Nothing

@@ -3,28 +3,23 @@
 
 ghost use Rattle.std.specs.Prelude.{◌≡◌, ◌<◌, length};
 ghost use Rattle.state_places.specs.Sizes.{most_reports, store_size};
-ghost use Rattle.uuid_value.specs.Value.{num};
-ghost use Rattle.adv_data.specs.Ad.{lists_service};
 ghost use Rattle.adv_reports.specs.Reports.{response_bytes};
 ghost use Rattle.radio_match.specs.Matching.{scannable, connectable, listens, asks, reaches, chosen};
 
+use l2cap_params::Parameters;
 use state::{Running, Step, Target};
-use uuid_value::Uuid;
 
 // What is to be sent to an advertiser at once.
+// Kept: an enum of three answers, as the Rust has it, since Option<AdvAction> would say nothing more and C's numbers 0, 1, 2 are these.
 #[derive(Clone, Copy)]
 pub enum AdvAction {
     Nothing,
     ScanRequest,
-    // Interval in 1.25 ms, latency in events, timeout in 10 ms.
-    Connect {
-        interval: u16,
-        latency: u16,
-        timeout: u16,
-    },
+    Connect(Parameters),
 }
 
 // PDU types.
+// Kept: numbers, since C hands the type in as a byte, any value is taken, and the report keeps it.
 const ADV_IND: u8 = 0;
 
 const ADV_DIRECT_IND: u8 = 1;
@@ -48,6 +43,7 @@ pub fn is_connectable(pdu: u8, us: bool) -> bool
 }
 
 // Whether advertisements are heard.
+#[tactic(auto, unfolding(crate::specs::Matching::listens))]
 pub fn is_listening(r: Running) -> bool
     ensures { result ≡ listens r }
 {
@@ -58,6 +54,7 @@ pub fn is_listening(r: Running) -> bool
 }
 
 // Whether who advertises so is asked.
+#[tactic(auto, unfolding(crate::specs::Matching::asks))]
 pub fn is_asking(r: Running, pdu: u8) -> bool
     ensures { result ≡ asks r pdu }
 {
@@ -65,58 +62,40 @@ pub fn is_asking(r: Running, pdu: u8) -> bool
     r.active & state_kinds::is_kind(step, state_kinds::SCAN) & is_scannable(pdu)
 }
 
-fn wide(x: u8) -> usize
-    ensures { result ≡ x }
-{
-    x as usize
-}
-
-// Whether the scan response of report i lists the service; of a length above 31 there is none.
-fn responds(store: &[u8], i: usize, len: u8, uuid: Uuid) -> bool
+// The scan response of report i; no bytes where its length is above 31, since then it has none.
+pub fn response_of<'a>(store: &'a [u8], i: usize, len: u8) -> &'a [u8]
     requires { (length store.now ≡ store_size) × (i < most_reports) }
-    ensures { result ≡ lists_service (num uuid) (response_bytes store.now i len) }
+    ensures { result.now ≡ response_bytes store.now i len }
 {
     if MAX_LENGTH < len {
-        return false;
+        return &store[..0];
     }
     let from = state_places::response_at(i);
-    let to = from + wide(len);
-    adv_listing::ad_lists_service(&store[from..to], uuid)
+    let to = from + usize::from(len);
+    &store[from..to]
 }
 
-// Whether the target is met by the advertiser of report i.
-fn is_reached(target: Target, who: u64, store: &[u8], i: usize, len: u8, data: &[u8]) -> bool
-    requires { (length store.now ≡ store_size) × (i < most_reports) }
-    ensures { result ≡ reaches target who «data».now (response_bytes store.now i len) }
+// Whether the target is met by an advertiser, its advertising data and its scan response.
+#[tactic(auto, unfolding(crate::specs::Matching::reaches))]
+fn is_reached(target: Target, who: u64, data: &[u8], response: &[u8]) -> bool
+    ensures { result ≡ reaches target who «data».now response.now }
 {
     match target {
         Target::Any => true,
         Target::Address(a) => adv_reports::key_of(a) == who,
         Target::Service(uuid) => {
-            if adv_listing::ad_lists_service(data, uuid) {
-                return true;
-            }
-            responds(store, i, len, uuid)
+            adv_listing::ad_lists_service(data, uuid)
+                || adv_listing::ad_lists_service(response, uuid)
         }
     }
 }
 
-// What a step that is no Scan does about the advertiser of report i, whose scan response has len bytes.
-pub fn choose(
-    step: Step,
-    who: u64,
-    store: &[u8],
-    i: usize,
-    len: u8,
-    data: &[u8],
-    pdu: u8,
-    us: bool,
-) -> AdvAction
-    requires { (length store.now ≡ store_size) × (i < most_reports) }
-    ensures { result ≡ chosen step who «data».now (response_bytes store.now i len) pdu us }
+// What a step that is no Scan does about an advertiser.
+#[tactic(auto, unfolding(crate::specs::Matching::chosen))]
+pub fn choose(step: Step, who: u64, data: &[u8], response: &[u8], pdu: u8, us: bool) -> AdvAction
+    ensures { result ≡ chosen step who «data».now response.now pdu us }
 {
     match step {
-        Step::Scan { ms: _ } => AdvAction::Nothing,
         Step::Connect {
             target,
             interval,
@@ -124,38 +103,15 @@ pub fn choose(
             timeout,
             within_ms: _,
         } => {
-            if !is_connectable(pdu, us) {
-                return AdvAction::Nothing;
-            }
-            if is_reached(target, who, store, i, len, data) {
-                return AdvAction::Connect {
+            if is_connectable(pdu, us) && is_reached(target, who, data, response) {
+                return AdvAction::Connect(Parameters {
                     interval,
                     latency,
                     timeout,
-                };
+                });
             }
             AdvAction::Nothing
         }
-        Step::ExchangeMtu { mtu: _ } => AdvAction::Nothing,
-        Step::DiscoverServices => AdvAction::Nothing,
-        Step::DiscoverCharacteristics { service: _ } => AdvAction::Nothing,
-        Step::Subscribe {
-            characteristic: _,
-            indicate: _,
-        } => AdvAction::Nothing,
-        Step::Write {
-            characteristic: _,
-            with_response: _,
-        } => AdvAction::Nothing,
-        Step::Read { characteristic: _ } => AdvAction::Nothing,
-        Step::WaitNotification {
-            characteristic: _,
-            within_ms: _,
-            age: _,
-        } => AdvAction::Nothing,
-        Step::Wait { ms: _ } => AdvAction::Nothing,
-        Step::Disconnect => AdvAction::Nothing,
-        Step::Capture { enabled: _ } => AdvAction::Nothing,
-        Step::CaptureSecrets { secrets: _ } => AdvAction::Nothing,
+        _ => AdvAction::Nothing,
     }
 }

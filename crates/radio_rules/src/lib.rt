@@ -9,6 +9,7 @@ ghost use Rattle.radio_rules.specs.Hearing.{then_data, no_key};
 use state_refusals::Refusal;
 
 // After refusals 1 to 3: the data's.
+#[tactic(auto, unfolding(crate::specs::Hearing::then_data))]
 pub fn then_data(gate: Result<(), Refusal>, len: usize) -> Result<(), Refusal>
     ensures { gate_number result ≡ then_data (gate_number gate) len }
 {
@@ -20,6 +21,7 @@ pub fn then_data(gate: Result<(), Refusal>, len: usize) -> Result<(), Refusal>
 }
 
 // The length of data, as it is kept.
+// Kept: a cast under a bound, since u8::try_from would answer a Result that is never an Err here.
 pub fn narrow(n: usize) -> u8
     requires { n ≤ data_size }
     ensures { result ≡ n }

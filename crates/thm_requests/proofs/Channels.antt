@@ -38,14 +38,14 @@ use Rattle.att_pdu.specs.Pdu.{att_error, exchange_mtu_rsp, confirmation}
 use Rattle.script_rules.specs.World.{Told}
 use Rattle.script_rules.specs.Send.{send}
 use Rattle.l2cap_signaling.specs.Answer.{signaling_answer, smp_answer}
-use Rattle.l2cap_signaling.specs.declared.Update as update
-use Rattle.l2cap_signaling.specs.declared.Update.TheVariants as update-variants
+use Rattle.l2cap_params.specs.declared.Parameters.{Parameters}
+use Rattle.std.specs.Prelude.{Option, Some, None}
 use Rattle.state_rules.specs.Steps.{most_mtu}
 use Rattle.link_rules.specs.Replies.{reply, asks_update, confirmed}
 use lib.ListN.{take}
 use lib.ListN.{length-take}
 use Rattle.att_pdu.proofs.PduLaws.{length-att_error, length-exchange_mtu_rsp}
-use Rattle.l2cap_signaling.proofs.AnswerLaws.{signaling-sized, smp-sized}
+use Rattle.l2cap_signaling.proofs.AnswerLaws.{Sized, signaling-sized, smp-sized}
 use Rattle.thm_requests.specs.Sorts.{requests, commands}
 use Rattle.thm_requests.proofs.Asks.{Asks, calm, none, asks, Calmly, Voice, Reply, mute, replies, voiced, itself, asks_none, mild, asks-then, asks-quit, asks-finish, not-awaited}
 use Rattle.thm_requests.proofs.Starts.{asks-ends, asks-services, asks-descriptors, asks-characteristics, asks-check}
@@ -224,31 +224,26 @@ reply-refuse t op handle code =
     replies cid_att (att_error op handle code) (omega arith) (omega (arith, length-att_error op handle code)) refl refl (itself (send t cid_att (att_error op handle code)))
 
 -- nothing on another channel is a request
-reply-other : (t : Told) (channel n : ℕ) (l : List ℕ) → channel ≤ 65535 → length l ≤ 6 → eqb channel cid_att ≡ false → Reply t (reply t channel n l)
+reply-other : (t : Told) (channel size : ℕ) (answer : Option (List ℕ)) → channel ≤ 65535 → Sized size answer → size ≤ 6 → eqb channel cid_att ≡ false → Reply t (reply t channel answer)
 unfolding reply
-reply-other t channel n l c m e = go (eqb n 0)
-  where
-    op : ℕ
-    op = get_or (take n l) 0 0
+reply-other t channel size None c z m e = mute (itself t)
+reply-other t channel size (Some l) c z m e =
+    let op = get_or l 0 0 in
+    replies channel l c (omega (arith, m, z)) (ap (λ (b : Bool). b && is_request op) e) (ap (λ (b : Bool). b && (among op requests || among op commands)) e)
+    (itself (send t channel l))
 
-    go : (b : Bool) → Reply t (pick b t (send t channel (take n l)))
-    go true = mute (itself t)
-    go false =
-        replies channel (take n l) c (omega (arith, m, length-take n l)) (ap (λ (b : Bool). b && is_request op) e) (ap (λ (b : Bool). b && (among op requests || among op commands)) e)
-        (itself (send t channel (take n l)))
-
-reply-update : (t s : Told) (u : update.Update) → Reply t s → Reply t (asks_update s u)
-reply-update t s update-variants.Nothing v = v
-reply-update t s (update-variants.To interval latency timeout) (mute a) = mute (record { frames = a.frames; bytes = a.bytes; out = a.out })
-reply-update t s (update-variants.To interval latency timeout) (replies channel payload c m e f a) = replies channel payload c m e f (record { frames = a.frames; bytes = a.bytes; out = a.out })
+reply-update : (t s : Told) (u : Option Parameters) → Reply t s → Reply t (asks_update s u)
+reply-update t s None v = v
+reply-update t s (Some p) (mute a) = mute (record { frames = a.frames; bytes = a.bytes; out = a.out })
+reply-update t s (Some p) (replies channel payload c m e f a) = replies channel payload c m e f (record { frames = a.frames; bytes = a.bytes; out = a.out })
 
 pub reply-signaling : (t : Told) (p : List ℕ) → Reply t (on_signaling t p)
 unfolding on_signaling
-reply-signaling t p = let a = signaling_answer p in reply-update t (reply t cid_signaling a.len a.bytes) a.update (reply-other t cid_signaling a.len a.bytes (omega arith) (omega (arith, (signaling-sized p).whole)) refl)
+reply-signaling t p = let a = signaling_answer p in reply-update t (reply t cid_signaling a.reply) a.update (reply-other t cid_signaling 6 a.reply (omega arith) (signaling-sized p) (omega arith) refl)
 
 pub reply-smp : (t : Told) (p : List ℕ) → Reply t (on_smp t p)
 unfolding on_smp
-reply-smp t p = let a = smp_answer p in reply-other t cid_smp a.len a.bytes (omega arith) (omega (arith, (smp-sized p).whole)) refl
+reply-smp t p = reply-other t cid_smp 2 (smp_answer p) (omega arith) (smp-sized p) (omega arith) refl
 
 pub reply-confirmed : (t : Told) (b : Bool) → Reply t (confirmed t b)
 unfolding among

@@ -15,9 +15,9 @@ use Rattle.att_pdu.specs.Numbers.{op_error_rsp, op_exchange_mtu_req, op_handle_v
 use Rattle.att_pdu.specs.Pdu.{confirmation}
 use Rattle.att_pdu.proofs.PduLaws.{length-att_error, length-exchange_mtu_rsp}
 use Rattle.l2cap_signaling.specs.Answer.{signaling_answer, smp_answer}
-use Rattle.l2cap_signaling.proofs.AnswerLaws.{signaling-sized, smp-sized}
-use Rattle.l2cap_signaling.specs.declared.Update as update
-use Rattle.l2cap_signaling.specs.declared.Update.TheVariants as update-variants
+use Rattle.l2cap_signaling.proofs.AnswerLaws.{Sized, signaling-sized, smp-sized}
+use Rattle.l2cap_params.specs.declared.Parameters.{Parameters}
+use Rattle.std.specs.Prelude.{Option, Some, None}
 use Rattle.gatt_services.specs.declared.Service.{Service}
 use Rattle.lists.specs.declared.Found.{Found}
 use Rattle.gatt_descriptors.specs.declared.Named.{Named}
@@ -138,27 +138,24 @@ module _ (m : ℕ) (k : Mtu m) (at : Micros) where
 -- ---- what is no response
 
 -- bytes on another channel than ATT's
-sends-reply : (m : ℕ) (t : Told) (channel n : ℕ) (answer : List ℕ) → channel ≤ 65535 → (channel ≡ cid_att → ⊥) → length answer ≤ 6 → Sends m t (reply t channel n answer)
+sends-reply : (m : ℕ) (t : Told) (channel size : ℕ) (answer : Option (List ℕ)) → channel ≤ 65535 → (channel ≡ cid_att → ⊥) → Sized size answer → size ≤ 6 → Sends m t (reply t channel answer)
 unfolding reply
-sends-reply m t channel n answer known other short = go (eqb n 0)
-  where
-    go : (b : Bool) → Sends m t (pick b t (send t channel (take n answer)))
-    go true = nothing m t
-    go false =
-        one
-        (record {
-          channel = channel;
-          payload = take n answer;
-          known = known;
-          short = omega (arith, short, length-take n answer);
-          within = λ e. absurd (other e);
-          sent = same (send t channel (take n answer));
-        })
+sends-reply m t channel size None known other sized short = nothing m t
+sends-reply m t channel size (Some answer) known other sized short =
+    one
+    (record {
+      channel = channel;
+      payload = answer;
+      known = known;
+      short = omega (arith, short, sized);
+      within = λ e. absurd (other e);
+      sent = same (send t channel answer);
+    })
 
 -- a link request is no frame
-asks-quiet : (t : Told) (u : update.Update) → Quiet t (asks_update t u)
-asks-quiet t update-variants.Nothing = same t
-asks-quiet t (update-variants.To interval latency timeout) = record { frames = refl; bytes = refl; out = refl }
+asks-quiet : (t : Told) (u : Option Parameters) → Quiet t (asks_update t u)
+asks-quiet t None = same t
+asks-quiet t (Some p) = record { frames = refl; bytes = refl; out = refl }
 
 quiet_then : {t u v : Told} → Quiet t u → Quiet u v → Quiet t v
 quiet_then p q = record { frames = q.frames ∙ p.frames; bytes = q.bytes ∙ p.bytes; out = q.out ∙ p.out }
@@ -172,14 +169,13 @@ sends-signaling : (m : ℕ) (t : Told) (pdu : List ℕ) → Sends m t (on_signal
 unfolding on_signaling
 sends-signaling m t pdu =
     let a = signaling_answer pdu in
-    then-quiet (sends-reply m t cid_signaling a.len a.bytes (omega arith) (λ e. omega (arith, e)) (omega (arith, (signaling-sized pdu).whole)))
-    (asks-quiet (reply t cid_signaling a.len a.bytes) a.update)
+    then-quiet (sends-reply m t cid_signaling 6 a.reply (omega arith) (λ e. omega (arith, e)) (signaling-sized pdu) (omega arith))
+    (asks-quiet (reply t cid_signaling a.reply) a.update)
 
 sends-smp : (m : ℕ) (t : Told) (pdu : List ℕ) → Sends m t (on_smp t pdu)
 unfolding on_smp
 sends-smp m t pdu =
-    let a = smp_answer pdu in
-    sends-reply m t cid_smp a.len a.bytes (omega arith) (λ e. omega (arith, e)) (omega (arith, (smp-sized pdu).whole))
+    sends-reply m t cid_smp 2 (smp_answer pdu) (omega arith) (λ e. omega (arith, e)) (smp-sized pdu) (omega arith)
 
 module _ (m : ℕ) (k : Mtu m) where
   sends-refuse : (t : Told) (opcode handle code : ℕ) → Sends m t (refuse t opcode handle code)

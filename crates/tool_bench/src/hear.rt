@@ -30,11 +30,7 @@ pub fn number_of(x: AdvAction) -> usize {
     match x {
         AdvAction::Nothing => 1,
         AdvAction::ScanRequest => 2,
-        AdvAction::Connect {
-            interval: _,
-            latency: _,
-            timeout: _,
-        } => 3,
+        AdvAction::Connect(_) => 3,
     }
 }
 

@@ -94,11 +94,7 @@ fn action(x: AdvAction) {
     match x {
         AdvAction::Nothing => tool_say::line(b"    nothing is done about it"),
         AdvAction::ScanRequest => tool_say::line(b"    asks for its scan response"),
-        AdvAction::Connect {
-            interval: _,
-            latency: _,
-            timeout: _,
-        } => tool_say::line(b"    asks for a connection"),
+        AdvAction::Connect(_) => tool_say::line(b"    asks for a connection"),
     }
 }
 

@@ -7,7 +7,7 @@ mod requests;
 mod searches;
 mod structures;
 
-use requests::Request;
+use l2cap_params::Request;
 
 // What a bay head advertises: flags, two 16-bit services and a 128-bit one.
 const DATA: [u8; 27] = [
@@ -48,39 +48,46 @@ fn damage(data: &[u8]) {
     searches::service(b"180F", data, data);
 }
 
-fn judgements() {
-    tool_say::line(b"");
-    tool_say::line(b"A head asks for other connection parameters.");
-    requests::judge(Request {
+// What a head asks for: intervals, latency and timeout.
+const REQUESTS: [Request; 5] = [
+    Request {
         min: 6,
         max: 3200,
         latency: 0,
         timeout: 801,
-    });
-    requests::judge(Request {
+    },
+    Request {
         min: 6,
         max: 3200,
         latency: 0,
         timeout: 800,
-    });
-    requests::judge(Request {
+    },
+    Request {
         min: 5,
         max: 12,
         latency: 0,
         timeout: 100,
-    });
-    requests::judge(Request {
+    },
+    Request {
         min: 24,
         max: 12,
         latency: 0,
         timeout: 100,
-    });
-    requests::judge(Request {
+    },
+    Request {
         min: 6,
         max: 12,
         latency: 500,
         timeout: 3200,
-    });
+    },
+];
+
+fn judgements() {
+    tool_say::line(b"");
+    tool_say::line(b"A head asks for other connection parameters.");
+    for request in REQUESTS {
+        requests::judge(request);
+    }
 }
 
 fn main() {

@@ -25,7 +25,7 @@ fn verdict(p: Presence) {
 fn head(what: &[u8], data: &[u8], response: &[u8]) {
     tool_say::text(what);
     tool_say::bytes(data);
-    if 0 < response.len() {
+    if !response.is_empty() {
         tool_say::text(b", then scan response");
         tool_say::bytes(response);
     }

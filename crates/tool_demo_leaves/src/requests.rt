@@ -2,14 +2,7 @@
 ghost use Rattle.std.specs.Prelude.{◌≡◌, ◌<◌};
 
 use l2cap::cid;
-
-#[derive(Clone, Copy)]
-pub struct Request {
-    pub min: u16,
-    pub max: u16,
-    pub latency: u16,
-    pub timeout: u16,
-}
+use l2cap_params::Request;
 
 // Every request of the demo has this identifier.
 const ID: u8 = 7;
@@ -28,19 +21,13 @@ fn milliseconds(hundredths: u64) {
     tool_say::text(b" ms");
 }
 
-fn wide(v: u16) -> u64
-    ensures { (result ≡ v) × (result < 65536) }
-{
-    v as u64
-}
-
 fn tell(r: Request) {
     tool_say::text(b"  Interval ");
-    milliseconds(INTERVAL * wide(r.min));
+    milliseconds(INTERVAL * u64::from(r.min));
     tool_say::text(b" to ");
-    milliseconds(INTERVAL * wide(r.max));
-    tool_say::told(b", latency ", wide(r.latency), b", timeout ");
-    milliseconds(TIMEOUT * wide(r.timeout));
+    milliseconds(INTERVAL * u64::from(r.max));
+    tool_say::told(b", latency ", u64::from(r.latency), b", timeout ");
+    milliseconds(TIMEOUT * u64::from(r.timeout));
 }
 
 // Why intervals that are bad are bad.
@@ -56,10 +43,10 @@ fn interval_reason(r: Request) {
 fn timeout_reason(r: Request) {
     tool_say::told(
         b": bad, the timeout must be 100 ms to 32 s and above 2 x ",
-        1 + wide(r.latency),
+        1 + u64::from(r.latency),
         b" x ",
     );
-    milliseconds(INTERVAL * wide(r.max));
+    milliseconds(INTERVAL * u64::from(r.max));
     tool_say::line(b"");
 }
 
@@ -92,21 +79,14 @@ fn payload(r: Request) -> [u8; 12] {
     ]
 }
 
-// Writes the frame of the first n bytes, and answers its length.
-fn send(out: &mut [u8], payload: &[u8], n: usize) -> usize {
-    if payload.len() < n {
-        return 0;
-    }
-    l2cap::l2cap(out, 0, cid::SIGNALING, &payload[0..n])
-}
-
 // The frame that goes back.
 fn answer(r: Request) {
     let request = payload(r);
-    let told = l2cap_signaling::on_signaling(&request);
-    let bytes = told.bytes;
     let mut out = [0u8; 16];
-    let sent = send(&mut out, &bytes, told.len);
+    let sent = match l2cap_signaling::on_signaling(&request).reply {
+        Some(reply) => l2cap::l2cap(&mut out, 0, cid::SIGNALING, &reply),
+        None => 0,
+    };
     tool_say::text(b"    answered with");
     tool_say::first(&out, sent);
     tool_say::line(b"");
@@ -114,7 +94,7 @@ fn answer(r: Request) {
 
 pub fn judge(r: Request) {
     tell(r);
-    if l2cap_params::params_good(r.min, r.max, r.latency, r.timeout) {
+    if r.is_good() {
         tool_say::line(b": good");
     } else {
         reason(r);

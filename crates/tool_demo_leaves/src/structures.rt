@@ -1,26 +1,31 @@
 // Advertising data taken apart, structure by structure.
+ghost use Rattle.std.specs.Prelude.{◌<◌, ◌≤◌, MatchOption, ⊤};
+
 use uuid_value::Uuid;
 
-// Bytes of each UUID that a structure of the kind lists, or 0 (Core Supplement Part A 1.1).
-fn width_of(kind: u8) -> usize {
+// Bytes of each UUID that a structure of the kind lists, if it lists any (Core Supplement Part A 1.1).
+fn width_of(kind: u8) -> Option<usize>
+    ensures { MatchOption result ⊤ (λ w. (0 < w) × (w ≤ 16)) }
+{
     match kind {
-        0x02 | 0x03 => 2,
-        0x04 | 0x05 => 4,
-        0x06 | 0x07 => 16,
-        _ => 0,
+        0x02 | 0x03 => Some(2),
+        0x04 | 0x05 => Some(4),
+        0x06 | 0x07 => Some(16),
+        _ => None,
     }
 }
 
 // Each width has a kind for a list that is incomplete, and after it one for a complete list.
-fn tell_list(kind: u8, width: usize) {
+fn tell_list(kind: u8, width: usize)
+    requires { width ≤ 16 }
+{
     if kind % 2 == 0 {
         tool_say::text(b"in");
     }
-    if width <= 16 {
-        tool_say::told(b"complete list of ", 8 * (width as u64), b"-bit services,");
-    }
+    tool_say::told(b"complete list of ", 8 * (width as u64), b"-bit services,");
 }
 
+// Kept: kinds are numbers, since the demo shows bytes as they stand in the data.
 fn tell_other(kind: u8) {
     match kind {
         0x01 => tool_say::text(b"flags,"),
@@ -32,11 +37,9 @@ fn tell_other(kind: u8) {
 
 // What a structure of this kind is called.
 fn tell_kind(kind: u8) {
-    let width = width_of(kind);
-    if width == 0 {
-        tell_other(kind);
-    } else {
-        tell_list(kind, width);
+    match width_of(kind) {
+        Some(width) => tell_list(kind, width),
+        None => tell_other(kind),
     }
 }
 
@@ -49,33 +52,23 @@ fn uuid_of(entry: &[u8]) -> Option<Uuid> {
 
 fn tell_uuid(entry: &[u8]) {
     tool_say::text(b"            service ");
-    match uuid_of(entry) {
-        Some(u) => tool_say::uuid(u),
-        None => (),
+    if let Some(u) = uuid_of(entry) {
+        tool_say::uuid(u);
     }
     tool_say::line(b"");
 }
 
-// The UUIDs of a list, of so many bytes each. A remainder is skipped.
-fn tell_uuids(body: &[u8], width: usize) {
-    if width == 0 {
-        return;
-    }
-    let mut i: usize = 0;
-    while width <= body.len() - i {
-        let next = i + width;
-        tell_uuid(&body[i..next]);
-        i = next;
-    }
-}
-
-// A structure's kind and body.
+// A structure's kind and body, and the UUIDs that it lists. A remainder is skipped.
 fn tell_one(at: usize, kind: u8, body: &[u8]) {
     tool_say::told(b"    byte ", at as u64, b": ");
     tell_kind(kind);
     tool_say::bytes(body);
     tool_say::line(b"");
-    tell_uuids(body, width_of(kind));
+    if let Some(width) = width_of(kind) {
+        for entry in body.chunks_exact(width) {
+            tell_uuid(entry);
+        }
+    }
 }
 
 fn tell_end() {
@@ -92,6 +85,7 @@ fn tell_overrun(at: usize) {
 
 fn tell_all(data: &[u8]) {
     let mut at: usize = 0;
+    // Kept: a while, since the step differs from turn to turn; a for would carry the place in a second local.
     while at < data.len() {
         let len = data[at] as usize;
         if len == 0 {

@@ -53,11 +53,7 @@ fn asked(x: AdvAction) -> u64 {
     match x {
         AdvAction::Nothing => 0,
         AdvAction::ScanRequest => 1,
-        AdvAction::Connect {
-            interval: _,
-            latency: _,
-            timeout: _,
-        } => 0,
+        AdvAction::Connect(_) => 0,
     }
 }
 

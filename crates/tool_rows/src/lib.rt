@@ -337,13 +337,9 @@ fn action(to: &mut [u8], at: usize, a: AdvAction) -> usize {
     match a {
         AdvAction::Nothing => none(to, at),
         AdvAction::ScanRequest => line::word(to, at, b"scan"),
-        AdvAction::Connect {
-            interval,
-            latency,
-            timeout,
-        } => {
+        AdvAction::Connect(p) => {
             let n = line::word(to, at, b"connect");
-            parameters(to, n, interval, latency, timeout)
+            parameters(to, n, p.interval, p.latency, p.timeout)
         }
     }
 }

@@ -7,19 +7,19 @@ pub returns-in-2 : goal.returns-in-2
 unfolding width_of
 returns-in-2 c =
     let k = c.args.kind in
-    simp (le-leb 2 k (omega arith), le-leb k 3 (omega arith))
+    (simp (le-leb 2 k (omega arith), le-leb k 3 (omega arith)), omega arith)
 
 pub returns-in-4 : goal.returns-in-4
 unfolding width_of
 returns-in-4 c =
     let k = c.args.kind in
-    simp (le-leb 2 k (omega arith), lt-leb k 3 (omega arith), le-leb 4 k (omega arith), le-leb k 5 (omega arith))
+    (simp (le-leb 2 k (omega arith), lt-leb k 3 (omega arith), le-leb 4 k (omega arith), le-leb k 5 (omega arith)), omega arith)
 
 pub returns-in-6 : goal.returns-in-6
 unfolding width_of
 returns-in-6 c =
     let k = c.args.kind in
-    simp (le-leb 2 k (omega arith), lt-leb k 3 (omega arith), le-leb 4 k (omega arith), lt-leb k 5 (omega arith), le-leb 6 k (omega arith), le-leb k 7 (omega arith))
+    (simp (le-leb 2 k (omega arith), lt-leb k 3 (omega arith), le-leb 4 k (omega arith), lt-leb k 5 (omega arith), le-leb 6 k (omega arith), le-leb k 7 (omega arith)), omega arith)
 
 pub returns-in_default : goal.returns-in_default
 unfolding width_of

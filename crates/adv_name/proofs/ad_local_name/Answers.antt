@@ -25,20 +25,20 @@ returns-then-is_utf8 c =
     let s = c.args.«data».now in
     let l = c.loop-at in
     let u = c.is_utf8 in
-    sym (name-good l.at s (get_or s l.at 0) refl c.if-len-eq0.false c.if-data-at.false _ refl c.if-kind.true u.result u.ensures c.if-is_utf8.true) ∙ l.invariant.1
+    sym (name-good l.at s (get_or s l.at 0) refl c.if-len-eq0.false c.if-data-at.false _ c.is_name.ensures c.if-is_name.true u.result u.ensures c.if-is_utf8.true) ∙ l.invariant.1
 
-pub returns-then-kind : goal.returns-then-kind
-returns-then-kind c =
+pub returns-then-is_name : goal.returns-then-is_name
+returns-then-is_name c =
     let s = c.args.«data».now in
     let l = c.loop-at in
     let u = c.is_utf8 in
-    sym (name-bad l.at s (get_or s l.at 0) refl c.if-len-eq0.false c.if-data-at.false _ refl c.if-kind.true u.result u.ensures c.if-is_utf8.false) ∙ l.invariant.1
+    sym (name-bad l.at s (get_or s l.at 0) refl c.if-len-eq0.false c.if-data-at.false _ c.is_name.ensures c.if-is_name.true u.result u.ensures c.if-is_utf8.false) ∙ l.invariant.1
 
 pub loop-at-preserved : goal.loop-at-preserved
 loop-at-preserved c =
     let s = c.args.«data».now in
     let l = c.loop-at in
-    let later = name-later l.at s (get_or s l.at 0) refl c.if-len-eq0.false c.if-data-at.false _ refl c.if-kind.false in
+    let later = name-later l.at s (get_or s l.at 0) refl c.if-len-eq0.false c.if-data-at.false _ c.is_name.ensures c.if-is_name.false in
     (later.0, sym later.1 ∙ l.invariant.1)
 
 pub returns : goal.returns

@@ -1,6 +1,9 @@
-use mathlib.Core.Path.{refl}
+use Prim.Native.Nat.{ℕ}
+use mathlib.Core.Path.{refl, ap, ◌∙◌}
+use mathlib.Core.List.{List}
 use native.Mathlib.Omega.{arith}
 use Rattle.state_refusals.proofs.RefusalLaws.{not-accepted}
+use Rattle.radio_match.specs.Matching.{chosen}
 use Rattle.radio_rules.specs.Hearing.{adv}
 use Rattle.state_core.specs.Reading.{central}
 use Rattle.radio_calls.specs.Kept.{reports_in}
@@ -137,8 +140,8 @@ returns-then-new c =
     (put-asked a.core a.tables.now _ s _ v _ _ going _ _ _ kept.ensures _ due key.ensures) in
     record { store_after = both.0; refused = both.1 }
 
-pub choose-action-requires : goal.choose-action-requires
-choose-action-requires c =
+pub response_of-response-requires : goal.response_of-response-requires
+response_of-response-requires c =
     let a = c.args in
     let gate = c.gate_quiet-gate in
     let v = adv a.at a.channel a.pdu a.address a.«data».now a.to_central in
@@ -172,5 +175,6 @@ returns c =
     let asked = c.if-new.false in
     let choice = c.choose-action in
     let both = gave a.core _ a.tables.now _ s _ _ _ _ c.done-2.ensures
-    (put-chosen a.core a.tables.now _ s _ v _ _ going _ _ _ kept.ensures _ asked choice.ensures) in
+    (put-chosen a.core a.tables.now _ s _ v _ _ going _ _ _ kept.ensures _ asked
+    (choice.ensures ∙ ap (λ (l : List ℕ). chosen a.core.running.step keyed.result a.«data».now l a.pdu a.to_central) c.response_of-response.ensures)) in
     record { store_after = both.0; refused = both.1 }
