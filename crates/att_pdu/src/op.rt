@@ -1,4 +1,5 @@
 // Opcodes of ATT PDUs, Core Vol 3 Part F 3.4.8.
+// Kept: numbers and no enum, since they are bytes of the wire, where any other may stand too.
 pub const ERROR_RSP: u8 = 0x01;
 
 pub const EXCHANGE_MTU_REQ: u8 = 0x02;

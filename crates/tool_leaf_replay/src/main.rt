@@ -4,8 +4,6 @@
 
 mod rows;
 
-use rows::Row;
-
 // Standard input and output.
 const STDIN_FILENO: i32 = 0;
 
@@ -17,18 +15,18 @@ const ROOM: usize = 262144;
 const HEADER: usize = 8;
 
 // How the reading stands.
-const GOING: u8 = 0;
-
-const DONE: u8 = 1;
-
-const CUT: u8 = 2;
-
-const UNKNOWN: u8 = 3;
+#[derive(Clone, Copy, PartialEq, Eq)]
+enum Stands {
+    Going,
+    Done,
+    Cut,
+    Unknown,
+}
 
 #[derive(Clone, Copy)]
 struct Tally {
     at: usize,
-    stands: u8,
+    stands: Stands,
     parse: u64,
     from_att: u64,
     to_att: u64,
@@ -51,7 +49,7 @@ fn counted(t: Tally, kind: u8) -> Tally {
         rows::SEARCH => u.search = one_more(t.search),
         rows::NAME => u.name = one_more(t.name),
         rows::PARAMS => u.params = one_more(t.params),
-        _ => u.stands = UNKNOWN,
+        _ => u.stands = Stands::Unknown,
     }
     u
 }
@@ -59,23 +57,23 @@ fn counted(t: Tally, kind: u8) -> Tally {
 fn step(s: &[u8], t: Tally) -> Tally {
     let mut u = t;
     if t.at == s.len() {
-        u.stands = DONE;
+        u.stands = Stands::Done;
         return u;
     }
     match rows::read_row(s, t.at) {
-        Row::Whole(kind, alike, next) => {
-            let mut v = counted(t, kind);
-            if v.stands == UNKNOWN {
+        Some(row) => {
+            let mut v = counted(t, row.kind);
+            if v.stands == Stands::Unknown {
                 return v;
             }
-            v.at = next;
-            if !alike {
+            v.at = row.next;
+            if !row.alike {
                 v.differ = one_more(t.differ);
             }
             v
         }
-        Row::Cut => {
-            u.stands = CUT;
+        None => {
+            u.stands = Stands::Cut;
             u
         }
     }
@@ -93,7 +91,7 @@ fn is_list(s: &[u8]) -> bool {
 fn replay(s: &[u8]) -> Tally {
     let mut t = Tally {
         at: HEADER,
-        stands: GOING,
+        stands: Stands::Going,
         parse: 0,
         from_att: 0,
         to_att: 0,
@@ -102,13 +100,11 @@ fn replay(s: &[u8]) -> Tally {
         params: 0,
         differ: 0,
     };
-    let mut turns = s.len();
-    while 0 < turns {
-        if t.stands != GOING {
+    for _ in s {
+        if t.stands != Stands::Going {
             break;
         }
         t = step(s, t);
-        turns -= 1;
     }
     t
 }
@@ -120,7 +116,7 @@ fn line(what: &[u8], n: u64) {
 }
 
 fn tell(t: Tally) {
-    if t.stands == DONE {
+    if t.stands == Stands::Done {
         line(b"parse rows        ", t.parse);
         line(b"from_att rows     ", t.from_att);
         line(b"to_att rows       ", t.to_att);
@@ -130,7 +126,7 @@ fn tell(t: Tally) {
         line(b"differences       ", t.differ);
         return;
     }
-    if t.stands == UNKNOWN {
+    if t.stands == Stands::Unknown {
         line(
             b"leaf_replay: a row of no known kind begins at byte ",
             t.at as u64,

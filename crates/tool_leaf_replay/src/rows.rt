@@ -2,6 +2,7 @@
 // answer. oracle/record has the kinds and says how the list was made.
 use uuid_value::Uuid;
 
+// Kept: numbers and no enum, since they are bytes of the list, and an unknown one is told only of a row that is whole.
 pub const PARSE: u8 = 1;
 
 pub const FROM_ATT: u8 = 2;
@@ -19,11 +20,12 @@ const FRAME: usize = 4;
 
 const UUID_LEN: usize = 16;
 
+// A whole row: its kind, whether the port answers as the Rust did, and where the next row begins.
 #[derive(Clone, Copy)]
-pub enum Row {
-    // The kind, whether the port answers as the Rust did, and where the next row begins.
-    Whole(u8, bool, usize),
-    Cut,
+pub struct Row {
+    pub kind: u8,
+    pub alike: bool,
+    pub next: usize,
 }
 
 // No bytes for no UUID, else its 16 bytes, the least significant first.
@@ -129,26 +131,31 @@ fn wide(b: u8) -> usize {
     b as usize
 }
 
-pub fn read_row(s: &[u8], at: usize) -> Row {
+// The row at a place, or none where it is cut.
+pub fn read_row(s: &[u8], at: usize) -> Option<Row> {
     if s.len() < at {
-        return Row::Cut;
+        return None;
     }
     let left = s.len() - at;
     if left < FRAME {
-        return Row::Cut;
+        return None;
     }
     let kind = s[at];
     let n = bytes_numbers::le16(s, at + 1) as usize;
     if left - FRAME < n {
-        return Row::Cut;
+        return None;
     }
     let input = at + 3;
     let middle = input + n;
     let m = wide(s[middle]);
     if left - FRAME - n < m {
-        return Row::Cut;
+        return None;
     }
     let answer = middle + 1;
     let next = answer + m;
-    Row::Whole(kind, alike(kind, &s[input..middle], &s[answer..next]), next)
+    Some(Row {
+        kind,
+        alike: alike(kind, &s[input..middle], &s[answer..next]),
+        next,
+    })
 }

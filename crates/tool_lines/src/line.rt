@@ -29,10 +29,8 @@ fn put(to: &mut [u8], at: usize, b: u8) -> usize {
 // Bytes as they are.
 pub fn text(to: &mut [u8], at: usize, s: &[u8]) -> usize {
     let mut n = at;
-    let mut i = 0;
-    while i < s.len() {
-        n = put(to, n, s[i]);
-        i += 1;
+    for &b in s {
+        n = put(to, n, b);
     }
     n
 }
@@ -87,12 +85,9 @@ fn digit(b: u8) -> u8 {
 // Two digits for each byte.
 fn hex(to: &mut [u8], at: usize, s: &[u8]) -> usize {
     let mut n = at;
-    let mut i = 0;
-    while i < s.len() {
-        let b = s[i];
+    for &b in s {
         let m = put(to, n, digit(b / 16));
         n = put(to, m, digit(b));
-        i += 1;
     }
     n
 }

@@ -1,4 +1,5 @@
 -- A sequence of UTF-8 by its bytes, and the sequences one after another.
+use Rattle.std.specs.Prelude.{Some, None}
 use Prim.Native.Nat.{ℕ, zero, suc, ◌+◌, ◌-◌, ◌≤◌, ◌<◌}
 use mathlib.Core.Path.{◌≡◌, refl, ap, sym, ◌∙◌}
 use mathlib.Core.Bool.{Bool, true, false, ◌&&◌, ◌||◌, and-true, and-false, or-false, false≢true}
@@ -189,3 +190,28 @@ pub get_d_any : (s : List ℕ) (i d e : ℕ) → i < length s → get_or s i d �
 get_d_any [] i d e h = absurd (omega arith)
 get_d_any (x ∷ s) zero d e h = refl
 get_d_any (x ∷ s) (suc i) d e h = get_d_any s i d e (omega arith)
+
+-- ---- the length of a sequence, or none
+
+module _ (s : List ℕ) where
+  pub some-length : (n : ℕ) → n ≡ sequence s → (n ≡ 0 → ⊥) → Some n ≡ pick (eqb (sequence s) 0) None (Some (sequence s))
+  some-length n e h = rw (← e, ne_eqb n 0 h)
+
+  pub no-length : 0 ≡ sequence s → None ≡ pick (eqb (sequence s) 0) None (Some (sequence s))
+  no-length e = rw (← e)
+
+  pub length-told : (n : ℕ) → Some n ≡ pick (eqb (sequence s) 0) None (Some (sequence s)) → (n ≡ sequence s) × (n ≡ 0 → ⊥)
+  length-told n r = go (eqb (sequence s) 0) refl r
+    where
+      go : (t : Bool) → eqb (sequence s) 0 ≡ t → Some n ≡ pick t None (Some (sequence s)) → (n ≡ sequence s) × (n ≡ 0 → ⊥)
+      go true e q = absurd cc
+      go false e q =
+          let z : n ≡ sequence s = cc in
+          (z, λ h. eqb-false (sequence s) 0 e (sym z ∙ h))
+
+  pub none-told : None ≡ pick (eqb (sequence s) 0) None (Some (sequence s)) → 0 ≡ sequence s
+  none-told r = go (eqb (sequence s) 0) refl r
+    where
+      go : (t : Bool) → eqb (sequence s) 0 ≡ t → None ≡ pick t None (Some (sequence s)) → 0 ≡ sequence s
+      go true e q = sym (eqb-true (sequence s) 0 e)
+      go false e q = absurd cc

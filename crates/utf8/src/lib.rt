@@ -1,10 +1,12 @@
 // Well-formed UTF-8: the Unicode Standard, Table 3-7.
 #![tactic(auto)]
 
-ghost use Rattle.std.specs.Prelude.{◌≡◌, [], ◌∷◌, ◌<◌, length, drop, get_or};
+ghost use Rattle.std.specs.Prelude.{◌≡◌, [], ◌∷◌, ◌<◌, Some, None, length, drop, get_or, eqb};
+ghost use Rattle.bytes_base.specs.Choice.{pick};
 ghost use Rattle.utf8.specs.Utf8.{twos, threes, fours, some, sequence, utf8};
 
 // Stands for a byte past the end: no sequence has it.
+// Kept: a number and no Option, since each row of the table is then one test of its bytes, the end of the text among them.
 const NO_BYTE: u16 = 256;
 
 // The last byte that is a sequence by itself, and the bytes that go on with a longer one.
@@ -54,28 +56,28 @@ fn is_four(a: u16, b: u16, c: u16, d: u16) -> bool
     overlong | middle | last
 }
 
-// How many bytes the well-formed sequence at a place has, or 0 where there is none.
-fn sequence_len(s: &[u8], at: usize) -> usize
+// How many bytes the well-formed sequence at a place has, or none.
+fn sequence_len(s: &[u8], at: usize) -> Option<usize>
     requires { at < length s.now }
-    ensures { result ≡ sequence (drop at s.now) }
+    ensures { result ≡ pick (eqb (sequence (drop at s.now)) 0) None (Some (sequence (drop at s.now))) }
 {
     let a = byte_or_none(s, at);
     if a <= LAST_SINGLE {
-        return 1;
+        return Some(1);
     }
     let b = byte_or_none(s, at + 1);
     let c = byte_or_none(s, at + 2);
     let d = byte_or_none(s, at + 3);
     if is_two(a, b) {
-        return 2;
+        return Some(2);
     }
     if is_three(a, b, c) {
-        return 3;
+        return Some(3);
     }
     if is_four(a, b, c, d) {
-        return 4;
+        return Some(4);
     }
-    0
+    None
 }
 
 // Whether bytes are well-formed UTF-8.
@@ -83,12 +85,12 @@ pub fn is_utf8(s: &[u8]) -> bool
     ensures { result ≡ utf8 s.now }
 {
     let mut at: usize = 0;
+    // Kept: a while, since the step is the length of the sequence and differs from turn to turn.
     while at < s.len() {
-        let n = sequence_len(s, at);
-        if n == 0 {
-            return false;
+        match sequence_len(s, at) {
+            Some(n) => at += n,
+            None => return false,
         }
-        at += n;
     }
     true
 }
