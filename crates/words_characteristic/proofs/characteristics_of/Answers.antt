@@ -1,4 +1,3 @@
-use Prim.Native.Nat.{◌-◌}
 use mathlib.Core.Path.{◌≡◌, refl, ◌∙◌}
 use native.Mathlib.Omega.{arith}
 use lib.ListN.{length-replicate, length-set}
@@ -14,7 +13,7 @@ bounds-kept-i c = let l = c.loop-i in omega (arith, l.invariant.0)
 
 pub loop-i-preserved : goal.loop-i-preserved
 loop-i-preserved c =
-    let l = c.loop-i in 
+    let l = c.loop-i in
     (length-set l.kept l.i _ ∙ l.invariant.0, read-on _ l.kept l.i _ l.invariant.0 (omega arith) c.characteristic_at.ensures l.invariant.1)
 
 pub returns : goal.returns

@@ -19,7 +19,7 @@ loop-i-preserved c =
     let w = a.tables.now in
     let e : l.i ≡ l.i - 1 + 1 = omega arith in
     scan_step a.start a.end a.from (characteristics_in w) a.count (omega (arith, length-characteristics w)) (l.i - 1) (omega arith)
-          l.s (rw e at l.invariant) _ c.characteristic_at-c.ensures _ c.scan_one-s.ensures
+    l.s (rw e at l.invariant) _ c.characteristic_at-c.ensures _ c.scan_one-s.ensures
 
 pub returns : goal.returns
 returns c =

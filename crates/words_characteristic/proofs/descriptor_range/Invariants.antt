@@ -1,4 +1,3 @@
-use Prim.Native.Nat.{◌≤◌, ◌-◌}
 use Rattle.words.specs.Tables.{characteristics_in}
 use Rattle.words_characteristic.proofs.ScanLaws.{Scanned}
 use Rattle.words_characteristic.proofs.descriptor_range.Given as goal

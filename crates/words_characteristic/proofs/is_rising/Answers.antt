@@ -1,4 +1,3 @@
-use Prim.Native.Nat.{◌-◌}
 use mathlib.Core.Path.{refl, sym, ◌∙◌}
 use Rattle.words_characteristic.proofs.LoopLaws.{rise-on, rise-end}
 use Rattle.words_characteristic.proofs.is_rising.Goals as goal

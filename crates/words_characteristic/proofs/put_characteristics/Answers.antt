@@ -1,18 +1,12 @@
-use Prim.Native.Nat.{◌-◌}
 use mathlib.Core.Path.{◌≡◌, refl}
 use native.Mathlib.Omega.{arith}
-use lib.ListN.{length, length-map}
+use lib.ListN.{length}
 use Rattle.words_characteristic.proofs.LoopLaws.{write-on}
 use Rattle.words_characteristic.proofs.put_characteristics.Goals as goal
 
 pub loop-at-init : goal.loop-at-init
 loop-at-init c =
     refl
-
-pub bounds-kept-at : goal.bounds-kept-at
-bounds-kept-at c =
-    let g : length c.args.t.kept ≡ 64 = c.well_formed.1.0.1.1.0.1.0.1 in
-    omega arith
 
 pub loop-at-preserved : goal.loop-at-preserved
 loop-at-preserved c =

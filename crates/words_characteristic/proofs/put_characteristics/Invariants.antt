@@ -1,6 +1,5 @@
-use Prim.Native.Nat.{◌≤◌, ◌-◌}
 use mathlib.Core.Path.{◌≡◌}
-use lib.ListN.{length, take}
+use lib.ListN.{take}
 use Rattle.lists.specs.Queue.{onto}
 use Rattle.words.specs.Tables.{characteristics_in, with_characteristics}
 use Rattle.words.specs.Tables as all

@@ -1,7 +1,6 @@
-use Prim.Native.Nat.{◌-◌}
 use mathlib.Core.Path.{◌≡◌}
 use native.Mathlib.Omega.{arith}
-use lib.ListN.{length, length-map}
+use lib.ListN.{length}
 use Rattle.words_service.proofs.ServiceLaws.{write-none, write-on}
 use Rattle.words_service.proofs.put_services.Goals as goal
 
