@@ -6,6 +6,8 @@ ghost use Rattle.link_record.specs.Record.{new_link, agreed, awaiting, answered,
 
 use state::{Bearer, Link};
 
+// Kept: two functions for each change, since the record is lent where it stands, and callers carry a core by value.
+
 // A new link: the default MTU, nothing awaited, not asked to end.
 fn open(link: &mut Link, handle: u16)
     ensures { link.new ≡ new_link handle }

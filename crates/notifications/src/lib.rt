@@ -37,6 +37,7 @@ pub struct Wanted {
 }
 
 // The newest notifications, the oldest first; those from count on are none.
+// Kept: an array with a count, since there is no heap, and a place from the count on has its words too.
 #[derive(Clone, Copy)]
 pub struct Notifications {
     pub kept: [Notification; 32],

@@ -15,6 +15,7 @@ pub struct Placed {
 }
 
 // The first count are the batch.
+// Kept: an array with a count, since a batch goes by value and there is no heap.
 #[derive(Clone, Copy)]
 pub struct Batch {
     pub steps: [Placed; 64],

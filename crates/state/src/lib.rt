@@ -92,6 +92,7 @@ pub struct Queued {
 }
 
 // The waiting steps, the next one first; those from count on are none.
+// Kept: an array with a count, here and in the tables below, since there is no heap, and a place from the count on has its words too.
 #[derive(Clone, Copy)]
 pub struct Queue {
     pub kept: [Queued; 64],
@@ -116,6 +117,7 @@ pub struct Results {
 }
 
 // The running step, if it is active; its deadline, if it is dated.
+// Kept: flags beside the values, since a step that has ended leaves its fields in the words of C (c_core/specs/Layout.antt).
 #[derive(Clone, Copy)]
 pub struct Running {
     pub deadline: Micros,
@@ -129,6 +131,7 @@ pub struct Running {
 }
 
 // What a present link is: 01's link record. A pending opcode of 0 is none.
+// Kept: 0 for no opcode, since the link's word of C says so (c_core/specs/Layout.antt), and `answered` sets it.
 #[derive(Clone, Copy)]
 pub struct Link {
     pub handle: u16,
@@ -138,6 +141,7 @@ pub struct Link {
 }
 
 // The link, if it is present, how many bytes are held of a frame, and whether a request was given up on it (set in strict mode alone).
+// Kept: a flag beside the link, since `unlinked` (script_rules/specs/Bearers.antt) keeps its record.
 #[derive(Clone, Copy)]
 pub struct Bearer {
     pub held: usize,
@@ -157,6 +161,7 @@ pub struct Counters {
 }
 
 // What was heard of each advertiser, a place of each array for one: a response of 32 bytes is none.
+// Kept: arrays side by side and 32 for none, since the definition `heard_in` (words/specs/Tables.antt) reads them so.
 #[derive(Clone, Copy)]
 pub struct Heard {
     pub at: [Micros; 64],
