@@ -259,4 +259,4 @@ unfolding handle fresh_central
 handle-said options store cs e =
     let h = run (fresh options store) cs in
     ap (λ (b : Bool). handle_words (pick b (Ok (link_of h)) (refused (gate_reader h.state (length h.store))))) (eq-eqb (gate_reader h.state (length h.store)) 0 e)
-    ∙ ap handle_words (link-run [] [] (fresh options store) cs (books-fresh options store))
+    ∙ ap (λ (x : Option ℕ). handle_words (Ok x)) (link-run [] [] (fresh options store) cs (books-fresh options store))
