@@ -1,40 +1,11 @@
 // Records of a trace (docs/TRACE.md): a tag, the body's length, the body.
 use crate::steps;
+use std::error::Error;
+use std::fmt;
+use std::ops::RangeInclusive;
 
 // Standard input.
 const STDIN_FILENO: i32 = 0;
-
-pub const FRESH: u8 = 0;
-
-pub const BATCH: u8 = 1;
-
-pub const TIMER: u8 = 2;
-
-pub const CONNECTED: u8 = 3;
-
-pub const DISCONNECTED: u8 = 4;
-
-pub const ADVERTISING: u8 = 5;
-
-pub const SCAN_RESPONSE: u8 = 6;
-
-pub const FRAGMENT: u8 = 7;
-
-pub const TIMER_US: u8 = 8;
-
-pub const CONNECTED_HANDLE: u8 = 9;
-
-pub const RESULT: u8 = 10;
-
-pub const DUMP: u8 = 11;
-
-pub const LINKS: u8 = 12;
-
-pub const PASSED_ON: u8 = 13;
-
-pub const FRESH_WITH: u8 = 14;
-
-pub const MODE: u8 = 15;
 
 // A tag, and a length of 4 bytes.
 const HEADER: usize = 5;
@@ -53,15 +24,29 @@ pub const RESPONSE_RANDOM_AT: usize = 14;
 
 pub const START_AT: usize = 8;
 
-// The least and the most bytes of a body.
-#[derive(Clone, Copy)]
-enum Size {
-    Within(usize, usize),
-    Unknown,
+// What a record asks for, in the order of the tags' numbers.
+#[derive(Clone, Copy, Debug, PartialEq, Eq)]
+pub enum Tag {
+    Fresh,
+    Batch,
+    Timer,
+    Connected,
+    Disconnected,
+    Advertising,
+    ScanResponse,
+    Fragment,
+    TimerUs,
+    ConnectedHandle,
+    Result,
+    Dump,
+    Links,
+    PassedOn,
+    FreshWith,
+    Mode,
 }
 
 // Why a record can't be read.
-#[derive(Clone, Copy)]
+#[derive(Clone, Copy, Debug, PartialEq, Eq)]
 pub enum Bad {
     // The input ends inside it.
     Cut,
@@ -73,119 +58,127 @@ pub enum Bad {
     Field,
 }
 
-#[derive(Clone, Copy)]
-pub enum Shape {
-    Good,
-    Not(Bad),
-}
-
-#[derive(Clone, Copy)]
-pub enum Next {
-    // The tag and the body's length.
-    Record(u8, usize),
-    // The input ends between two records.
-    End,
-    Unread(Bad),
-}
-
-fn size_of(tag: u8) -> Size {
-    match tag {
-        FRESH => Size::Within(0, 0),
-        BATCH => Size::Within(12, 18_956),
-        TIMER => Size::Within(8, 8),
-        CONNECTED => Size::Within(10, 10),
-        DISCONNECTED => Size::Within(8, 8),
-        ADVERTISING => Size::Within(18, 273),
-        SCAN_RESPONSE => Size::Within(15, 270),
-        FRAGMENT => Size::Within(9, MOST_BODY),
-        TIMER_US => Size::Within(0, 0),
-        CONNECTED_HANDLE => Size::Within(0, 0),
-        RESULT => Size::Within(4, 4),
-        DUMP => Size::Within(0, 0),
-        LINKS => Size::Within(0, 0),
-        PASSED_ON => Size::Within(4, 4),
-        FRESH_WITH => Size::Within(8, 8),
-        MODE => Size::Within(0, 0),
-        _ => Size::Unknown,
+impl Bad {
+    // The word of its line.
+    pub fn word(self) -> &'static str {
+        match self {
+            Bad::Cut => "cut",
+            Bad::Tag => "tag",
+            Bad::Length => "length",
+            Bad::Field => "field",
+        }
     }
+}
+
+impl fmt::Display for Bad {
+    fn fmt<W: fmt::Write>(&self, f: &mut fmt::Formatter<W>) -> fmt::Result {
+        f.write_str(self.word())
+    }
+}
+
+impl Error for Bad {}
+
+impl TryFrom<u8> for Tag {
+    type Error = Bad;
+
+    fn try_from(number: u8) -> Result<Self, Bad> {
+        match number {
+            0 => Ok(Tag::Fresh),
+            1 => Ok(Tag::Batch),
+            2 => Ok(Tag::Timer),
+            3 => Ok(Tag::Connected),
+            4 => Ok(Tag::Disconnected),
+            5 => Ok(Tag::Advertising),
+            6 => Ok(Tag::ScanResponse),
+            7 => Ok(Tag::Fragment),
+            8 => Ok(Tag::TimerUs),
+            9 => Ok(Tag::ConnectedHandle),
+            10 => Ok(Tag::Result),
+            11 => Ok(Tag::Dump),
+            12 => Ok(Tag::Links),
+            13 => Ok(Tag::PassedOn),
+            14 => Ok(Tag::FreshWith),
+            15 => Ok(Tag::Mode),
+            _ => Err(Bad::Tag),
+        }
+    }
+}
+
+impl Tag {
+    // The least and the most bytes of a body.
+    fn lengths(self) -> RangeInclusive<usize> {
+        match self {
+            Tag::Batch => 12..=18_956,
+            Tag::Timer | Tag::Disconnected | Tag::FreshWith => 8..=8,
+            Tag::Connected => 10..=10,
+            Tag::Advertising => 18..=273,
+            Tag::ScanResponse => 15..=270,
+            Tag::Fragment => 9..=MOST_BODY,
+            Tag::Result | Tag::PassedOn => 4..=4,
+            Tag::Fresh | Tag::TimerUs | Tag::ConnectedHandle | Tag::Dump | Tag::Links | Tag::Mode =>
+                0..=0,
+        }
+    }
+}
+
+// A record whose body is so many bytes.
+#[derive(Clone, Copy)]
+pub struct Record {
+    pub tag: Tag,
+    pub len: usize,
 }
 
 // The byte at a place, or 0.
 pub fn byte(s: &[u8], at: usize) -> u8 {
-    if at < s.len() { s[at] } else { 0 }
+    s.get(at).copied().unwrap_or(0)
 }
 
 pub fn is_flag(s: &[u8], at: usize) -> bool {
     byte(s, at) <= 1
 }
 
-fn flagged(good: bool) -> Shape {
-    if good {
-        Shape::Good
-    } else {
-        Shape::Not(Bad::Field)
-    }
-}
-
 // The fields of a whole body.
-fn fields(tag: u8, body: &[u8]) -> Shape {
-    match tag {
-        BATCH => steps::shape_of(body),
-        ADVERTISING => flagged(is_flag(body, RANDOM_AT) & is_flag(body, TO_CENTRAL_AT)),
-        SCAN_RESPONSE => flagged(is_flag(body, RESPONSE_RANDOM_AT)),
-        FRAGMENT => flagged(is_flag(body, START_AT)),
-        _ => Shape::Good,
-    }
+fn check_fields(tag: Tag, body: &[u8]) -> Result<(), Bad> {
+    let good = match tag {
+        Tag::Batch => return steps::check(body),
+        Tag::Advertising => is_flag(body, RANDOM_AT) & is_flag(body, TO_CENTRAL_AT),
+        Tag::ScanResponse => is_flag(body, RESPONSE_RANDOM_AT),
+        Tag::Fragment => is_flag(body, START_AT),
+        _ => true,
+    };
+    if good { Ok(()) } else { Err(Bad::Field) }
 }
 
-// So many bytes of the input at the start of the buffer; how many there were.
-fn fill(body: &mut [u8], len: usize) -> usize {
-    if body.len() < len {
-        return 0;
+// Fills the bytes from the input.
+fn fill(body: &mut [u8]) -> Result<(), Bad> {
+    if io::read_full(STDIN_FILENO, body) < body.len() {
+        return Err(Bad::Cut);
     }
-    io::read_full(STDIN_FILENO, &mut body[0..len])
+    Ok(())
 }
 
-fn fields_of(tag: u8, body: &[u8], len: usize) -> Shape {
-    if body.len() < len {
-        return Shape::Not(Bad::Length);
+// The body of so many bytes goes to the start of the buffer.
+fn read_body(body: &mut [u8], tag: Tag, len: usize) -> Result<(), Bad> {
+    if !tag.lengths().contains(&len) {
+        return Err(Bad::Length);
     }
-    fields(tag, &body[0..len])
+    let body = body.get_mut(..len).ok_or(Bad::Cut)?;
+    fill(body)?;
+    check_fields(tag, body)
 }
 
-fn read_body(body: &mut [u8], tag: u8, len: usize) -> Shape {
-    match size_of(tag) {
-        Size::Within(least, most) => {
-            if len < least {
-                return Shape::Not(Bad::Length);
-            }
-            if most < len {
-                return Shape::Not(Bad::Length);
-            }
-            if fill(body, len) < len {
-                return Shape::Not(Bad::Cut);
-            }
-            fields_of(tag, body, len)
-        }
-        Size::Unknown => Shape::Not(Bad::Tag),
-    }
-}
-
-// The next record, with its body at the start of the buffer.
-pub fn read_next(body: &mut [u8]) -> Next {
+// The next record, with its body at the start of the buffer; None where the input ends between two records.
+pub fn read_next(body: &mut [u8]) -> Result<Option<Record>, Bad> {
     let mut head = [0u8; HEADER];
     let n = io::read_full(STDIN_FILENO, &mut head);
     if n == 0 {
-        return Next::End;
+        return Ok(None);
     }
     if n < HEADER {
-        return Next::Unread(Bad::Cut);
+        return Err(Bad::Cut);
     }
-    let tag = head[0];
+    let tag = Tag::try_from(head[0])?;
     let len = bytes_numbers::le32(&head, LENGTH_AT) as usize;
-    let shape = read_body(body, tag, len);
-    match shape {
-        Shape::Good => Next::Record(tag, len),
-        Shape::Not(why) => Next::Unread(why),
-    }
+    read_body(body, tag, len)?;
+    Ok(Some(Record { tag, len }))
 }

@@ -1,11 +1,13 @@
 // Batches: the time, the count, a record of 40 bytes for each step, the values (docs/TRACE.md, 'A batch').
-ghost use Rattle.std.specs.Prelude.{◌≡◌, ◌≤◌, length};
+ghost use Rattle.std.specs.Prelude.{◌<◌, ◌≤◌};
+ghost use Rattle.std.specs.Slice.Iter.{chunks_size};
 
 use crate::record;
-use crate::record::{Bad, Shape};
+use crate::record::Bad;
 use notifications::Age;
 use script_rules::{Batch, Placed};
 use state::{Address, Step, Target};
+use std::slice::Chunks;
 use time::Millis;
 use uuid_value::Uuid;
 
@@ -57,10 +59,7 @@ pub fn count_of(body: &[u8]) -> usize {
 fn here_of(count: usize) -> usize
     ensures { result ≤ 64 }
 {
-    if count < state_places::MAX_STEPS {
-        return count;
-    }
-    state_places::MAX_STEPS
+    count.min(state_places::MAX_STEPS)
 }
 
 // Where the values begin.
@@ -70,12 +69,19 @@ pub fn values_at(body: &[u8]) -> usize
     STEPS_AT + STEP * here_of(count_of(body))
 }
 
+// The step records, if all of them stand there.
+fn records(body: &[u8]) -> Chunks<'_, u8>
+    ensures { 0 < chunks_size result }
+{
+    let steps = body.get(STEPS_AT..values_at(body)).unwrap_or(&[]);
+    steps.chunks(STEP)
+}
+
 fn is_good_target(r: &[u8]) -> bool {
-    let target = record::byte(r, FLAG_AT);
-    if target == ADDRESS {
-        return record::is_flag(r, RANDOM_AT);
+    match record::byte(r, FLAG_AT) {
+        ADDRESS => record::is_flag(r, RANDOM_AT),
+        target => target <= SERVICE,
     }
-    target <= SERVICE
 }
 
 fn is_good_step(r: &[u8]) -> bool {
@@ -90,60 +96,23 @@ fn is_good_step(r: &[u8]) -> bool {
     }
 }
 
-// Whether each of the first count records that stand there has good fields.
-fn are_good(body: &[u8], count: usize) -> bool {
-    let mut i = 0;
-    while i < state_places::MAX_STEPS {
-        if count <= i {
-            break;
-        }
-        let at = STEPS_AT + STEP * i;
-        if !is_good_step(part(body, at)) {
-            return false;
-        }
-        i += 1;
+// A batch whose records stand there, with good fields, and with not too many values.
+pub fn check(body: &[u8]) -> Result<(), Bad> {
+    let values = body.get(values_at(body)..).ok_or(Bad::Length)?;
+    if MOST_VALUES < values.len() {
+        return Err(Bad::Length);
     }
-    true
-}
-
-pub fn shape_of(body: &[u8]) -> Shape {
-    let values = values_at(body);
-    if body.len() < values {
-        return Shape::Not(Bad::Length);
+    if !records(body).all(is_good_step) {
+        return Err(Bad::Field);
     }
-    if MOST_VALUES < body.len() - values {
-        return Shape::Not(Bad::Length);
-    }
-    if are_good(body, count_of(body)) {
-        return Shape::Good;
-    }
-    Shape::Not(Bad::Field)
+    Ok(())
 }
 
 // ---- the steps
 
-// The step record that begins at a place, as far as it is there.
-fn part(body: &[u8], at: usize) -> &[u8] {
-    if body.len() <= at {
-        return &body[0..0];
-    }
-    if body.len() - at < STEP {
-        return &body[at..];
-    }
-    let end = at + STEP;
-    &body[at..end]
-}
-
 // An address of 6 bytes, the least significant first.
 pub fn address(s: &[u8], at: usize, random: bool) -> Address {
-    if s.len() < at {
-        return Address {
-            low: 0,
-            high: 0,
-            random,
-        };
-    }
-    let a = &s[at..];
+    let a = s.get(at..).unwrap_or(&[]);
     Address {
         low: bytes_numbers::le32(a, 0),
         high: bytes_numbers::le16(a, 4),
@@ -160,9 +129,8 @@ fn target(r: &[u8]) -> Target {
 }
 
 fn connect(r: &[u8]) -> Step {
-    let target = target(r);
     Step::Connect {
-        target,
+        target: target(r),
         interval: bytes_numbers::le16(r, INTERVAL_AT),
         latency: bytes_numbers::le16(r, LATENCY_AT),
         timeout: bytes_numbers::le16(r, TIMEOUT_AT),
@@ -213,37 +181,27 @@ fn step_of(r: &[u8]) -> Step {
     }
 }
 
-fn placed_at(body: &[u8], at: usize) -> Placed {
-    let r = part(body, at);
-    let step = step_of(r);
+fn placed_of(r: &[u8]) -> Placed {
     Placed {
-        step,
+        step: step_of(r),
         place: bytes_numbers::le32(r, PLACE_AT) as usize,
         len: bytes_numbers::le32(r, LEN_AT) as usize,
     }
 }
 
-fn no_steps() -> [Placed; 64]
-    ensures { length result ≡ 64 }
-{
-    [Placed {
-        step: Step::Scan { ms: Millis(0) },
-        place: 0,
-        len: 0,
-    }; 64]
-}
+const UNPLACED: Placed = Placed {
+    step: Step::Scan { ms: Millis(0) },
+    place: 0,
+    len: 0,
+};
 
 pub fn batch_of(body: &[u8]) -> Batch {
-    let count = count_of(body);
-    let mut steps = no_steps();
-    let mut i = 0;
-    while i < state_places::MAX_STEPS {
-        if count <= i {
-            break;
-        }
-        let at = STEPS_AT + STEP * i;
-        steps[i] = placed_at(body, at);
-        i += 1;
+    let mut steps = [UNPLACED; 64];
+    for (step, r) in steps.iter_mut().zip(records(body)) {
+        *step = placed_of(r);
     }
-    Batch { steps, count }
+    Batch {
+        steps,
+        count: count_of(body),
+    }
 }
