@@ -1,80 +1,67 @@
 // The whole state in words (docs/TRACE.md, 'Lines'), each part with its word before it: the core goes by value, the tables are lent.
 #![tactic(auto)]
 
-use gatt_characteristics::{Characteristic, Characteristics};
-use state::{Bearer, Counters, Running};
+ghost use Rattle.std.specs.Prelude.{ℕ, ◌<◌};
+
+use state::{Bearer, Counters};
 use state_core::Core;
-use tool_lines::line;
+use tool_lines::line::Line;
 use tool_rows::Advertiser;
 use words_report::Report;
 
-fn tell_counters(to: &mut [u8], at: usize, k: Counters) -> usize {
-    let a = line::named(to, at, b"next", k.next_index as u64);
-    let b = line::named(to, a, b"refused_steps", k.refused_steps);
-    let c = line::named(to, b, b"notified", k.notified);
-    line::named(to, c, b"wait_from", k.wait_from)
+fn tell_counters(line: &mut Line, k: Counters) {
+    line.named(b"next", k.next_index);
+    line.named(b"refused_steps", k.refused_steps);
+    line.named(b"notified", k.notified);
+    line.named(b"wait_from", k.wait_from);
 }
 
-fn tell_bearer(to: &mut [u8], at: usize, b: Bearer, store: &[u8]) -> usize {
-    let n = line::word(to, at, b"link");
-    tool_rows::bearer(to, n, b, store)
+fn tell_bearer(line: &mut Line, b: Bearer, store: &[u8]) {
+    line.word(b"link");
+    tool_rows::bearer(line, b, store);
 }
 
-// ---- the tables: the first count places of each, and none beyond its last
+// ---- the tables
 
-fn tell_keys(tables: &[u64; 1152], count: usize, to: &mut [u8], at: usize) -> usize {
-    let mut n = line::number(to, at, count as u64);
-    let mut i = 0;
-    while i < state_places::MAX_KEYS {
-        if count <= i {
-            break;
-        }
-        let p = words::KEY + i;
-        n = line::key(to, n, tables[p]);
-        i += 1;
+// How many places are in use, and each of them; none beyond the last place.
+fn each<F: Fn(&mut Line, usize)>(line: &mut Line, count: usize, places: usize, tell: F)
+    requires { (l : _) (i : ℕ) → i < places → F.pre tell l i }
+{
+    line.number(count as u64);
+    for i in 0..count.min(places) {
+        tell(line, i);
     }
-    n
 }
 
-fn tell_queue(tables: &[u64; 1152], count: usize, to: &mut [u8], at: usize, store: &[u8]) -> usize {
-    let mut n = line::named(to, at, b"waiting", count as u64);
-    let mut i = 0;
-    while i < state_places::MAX_STEPS {
-        if count <= i {
-            break;
-        }
+fn tell_keys(line: &mut Line, tables: &[u64; 1152], count: usize) {
+    each(
+        line,
+        count,
+        state_places::MAX_KEYS,
+        |line, i| line.key(tables[words::KEY + i]),
+    );
+}
+
+fn tell_queue(line: &mut Line, tables: &[u64; 1152], count: usize, store: &[u8]) {
+    line.word(b"waiting");
+    each(line, count, state_places::MAX_STEPS, |line, i| {
         let x = words_step::queued_at(tables, i);
-        n = tool_rows::queued(to, n, x, store, state_places::waiting_at(i));
-        i += 1;
-    }
-    n
+        tool_rows::queued(line, x, store, state_places::waiting_at(i));
+    });
 }
 
-fn tell_results(
-    tables: &[u64; 1152],
-    count: usize,
-    to: &mut [u8],
-    at: usize,
-    store: &[u8],
-) -> usize {
-    let mut n = line::named(to, at, b"results", count as u64);
-    let mut i = 0;
-    while i < state_places::MAX_RESULTS {
-        if count <= i {
-            break;
-        }
+fn tell_results(line: &mut Line, tables: &[u64; 1152], count: usize, store: &[u8]) {
+    line.word(b"results");
+    each(line, count, state_places::MAX_RESULTS, |line, i| {
         let x = words_result::result_at(tables, i);
-        n = tool_rows::kept(to, n, x, store, state_places::result_at(i));
-        i += 1;
-    }
-    n
+        tool_rows::kept(line, x, store, state_places::result_at(i));
+    });
 }
 
 fn advertiser(x: Report) -> Advertiser {
-    let at = x.at;
     Advertiser {
         key: x.who,
-        at: at.0,
+        at: x.at.0,
         channel: x.channel,
         pdu: x.pdu,
         len: x.len,
@@ -82,182 +69,89 @@ fn advertiser(x: Report) -> Advertiser {
     }
 }
 
-fn tell_reports(
-    tables: &[u64; 1152],
-    count: usize,
-    to: &mut [u8],
-    at: usize,
-    store: &[u8],
-) -> usize {
-    let mut n = line::named(to, at, b"reports", count as u64);
-    let mut i = 0;
-    while i < state_places::MAX_REPORTS {
-        if count <= i {
-            break;
-        }
+fn tell_reports(line: &mut Line, tables: &[u64; 1152], count: usize, store: &[u8]) {
+    line.word(b"reports");
+    each(line, count, state_places::MAX_REPORTS, |line, i| {
         let x = advertiser(words_report::report_at(tables, i));
-        n = tool_rows::report(
-            to,
-            n,
+        tool_rows::report(
+            line,
             x,
             store,
             state_places::report_at(i),
             state_places::response_at(i),
         );
-        i += 1;
-    }
-    n
+    });
 }
 
-fn tell_services(tables: &[u64; 1152], count: usize, to: &mut [u8], at: usize) -> usize {
-    let mut n = line::named(to, at, b"services", count as u64);
-    let mut i = 0;
-    while i < state_places::MAX_SERVICES {
-        if count <= i {
-            break;
-        }
-        let x = words_service::service_at(tables, i);
-        n = tool_rows::service(to, n, x);
-        i += 1;
-    }
-    n
+fn tell_services(line: &mut Line, tables: &[u64; 1152], count: usize) {
+    line.word(b"services");
+    each(line, count, state_places::MAX_SERVICES, |line, i| {
+        tool_rows::service(line, words_service::service_at(tables, i));
+    });
 }
 
-// At most all places are in use.
-fn known_in(tables: &[u64; 1152], count: usize) -> Characteristics {
-    if count < state_places::MAX_CHARACTERISTICS {
-        return words_characteristic::characteristics_of(tables, count);
-    }
-    words_characteristic::characteristics_of(tables, state_places::MAX_CHARACTERISTICS)
+fn tell_characteristics(line: &mut Line, tables: &[u64; 1152], count: usize) {
+    let most = state_places::MAX_CHARACTERISTICS;
+    let kept = words_characteristic::characteristics_of(tables, count.min(most)).kept;
+    line.word(b"characteristics");
+    each(
+        line,
+        count,
+        most,
+        |line, i| tool_rows::characteristic(line, kept[i]),
+    );
 }
 
-fn tell_characteristics(
-    kept: [Characteristic; 64],
-    count: usize,
-    to: &mut [u8],
-    at: usize,
-) -> usize {
-    let mut n = line::named(to, at, b"characteristics", count as u64);
-    let mut i = 0;
-    while i < state_places::MAX_CHARACTERISTICS {
-        if count <= i {
-            break;
-        }
-        let x = kept[i];
-        n = tool_rows::characteristic(to, n, x);
-        i += 1;
-    }
-    n
-}
-
-fn tell_notifications(
-    tables: &[u64; 1152],
-    count: usize,
-    to: &mut [u8],
-    at: usize,
-    store: &[u8],
-) -> usize {
-    let mut n = line::named(to, at, b"notifications", count as u64);
-    let mut i = 0;
-    while i < state_places::MAX_NOTIFICATIONS {
-        if count <= i {
-            break;
-        }
+fn tell_notifications(line: &mut Line, tables: &[u64; 1152], count: usize, store: &[u8]) {
+    line.word(b"notifications");
+    each(line, count, state_places::MAX_NOTIFICATIONS, |line, i| {
         let x = words_notification::notification_at(tables, i);
-        n = tool_rows::notification(to, n, x, store, state_places::notification_at(i));
-        i += 1;
-    }
-    n
+        tool_rows::notification(line, x, store, state_places::notification_at(i));
+    });
 }
 
 // The link of each notification.
-fn tell_links_heard(tables: &[u64; 1152], count: usize, to: &mut [u8], at: usize) -> usize {
-    let mut n = line::number(to, at, count as u64);
-    let mut i = 0;
-    while i < state_places::MAX_NOTIFICATIONS {
-        if count <= i {
-            break;
-        }
-        let x = words_notification::notification_at(tables, i);
-        n = line::number(to, n, x.link);
-        i += 1;
-    }
-    n
+fn tell_links_heard(line: &mut Line, tables: &[u64; 1152], count: usize) {
+    each(line, count, state_places::MAX_NOTIFICATIONS, |line, i| {
+        line.number(words_notification::notification_at(tables, i).link);
+    });
 }
 
 // What each result names.
-fn tell_named(tables: &[u64; 1152], count: usize, to: &mut [u8], at: usize) -> usize {
-    let mut n = line::number(to, at, count as u64);
-    let mut i = 0;
-    while i < state_places::MAX_RESULTS {
-        if count <= i {
-            break;
-        }
-        let x = words_result::result_at(tables, i);
-        n = line::number(to, n, x.heard);
-        i += 1;
-    }
-    n
+fn tell_named(line: &mut Line, tables: &[u64; 1152], count: usize) {
+    each(line, count, state_places::MAX_RESULTS, |line, i| {
+        line.number(words_result::result_at(tables, i).heard);
+    });
 }
 
 // ---- the parts
 
-fn tell_running(
-    r: Running,
-    tables: &[u64; 1152],
-    keys: usize,
-    to: &mut [u8],
-    at: usize,
-    store: &[u8],
-) -> usize {
-    let n = line::word(to, at, b"running");
-    if !r.active {
-        return line::word(to, n, b"none");
+fn tell_running(line: &mut Line, core: Core, tables: &[u64; 1152], store: &[u8]) {
+    line.word(b"running");
+    if !core.running.active {
+        line.word(b"none");
+        return;
     }
-    let m = tool_rows::running(to, n, r, store);
-    tell_keys(tables, keys, to, m)
+    tool_rows::running(line, core.running, store);
+    tell_keys(line, tables, core.key_count);
 }
 
-// What was asked for, and what came of it.
-fn tell_script(core: Core, tables: &[u64; 1152], to: &mut [u8], at: usize, store: &[u8]) -> usize {
-    let running = core.running;
+pub fn tell_state(line: &mut Line, core: Core, tables: &[u64; 1152], store: &[u8]) {
     let counts = core.counts;
-    let a = tell_running(running, tables, core.key_count, to, at, store);
-    let b = tell_queue(tables, counts.waiting, to, a, store);
-    tell_results(tables, counts.results, to, b, store)
-}
-
-// What was heard.
-fn tell_heard(core: Core, tables: &[u64; 1152], to: &mut [u8], at: usize, store: &[u8]) -> usize {
-    let counts = core.counts;
-    let a = tell_reports(tables, core.reports, to, at, store);
-    let b = tell_services(tables, counts.services, to, a);
-    let known = known_in(tables, counts.characteristics);
-    let kept = known.kept;
-    let c = tell_characteristics(kept, known.count, to, b);
-    tell_notifications(tables, counts.notifications, to, c, store)
-}
-
-pub fn tell_state(
-    core: Core,
-    tables: &[u64; 1152],
-    to: &mut [u8],
-    at: usize,
-    store: &[u8],
-) -> usize {
-    let counters = core.counters;
-    let bearer = core.bearer;
-    let a = tell_counters(to, at, counters);
-    let b = tell_bearer(to, a, bearer, store);
-    let c = tell_script(core, tables, to, b, store);
-    tell_heard(core, tables, to, c, store)
+    tell_counters(line, core.counters);
+    tell_bearer(line, core.bearer, store);
+    tell_running(line, core, tables, store);
+    tell_queue(line, tables, counts.waiting, store);
+    tell_results(line, tables, counts.results, store);
+    tell_reports(line, tables, core.reports, store);
+    tell_services(line, tables, counts.services);
+    tell_characteristics(line, tables, counts.characteristics);
+    tell_notifications(line, tables, counts.notifications, store);
 }
 
 // The count of links, and what is kept of them.
-pub fn tell_links(core: Core, tables: &[u64; 1152], to: &mut [u8], at: usize) -> usize {
-    let counters = core.counters;
-    let counts = core.counts;
-    let a = line::number(to, at, counters.links);
-    let b = tell_links_heard(tables, counts.notifications, to, a);
-    tell_named(tables, counts.results, to, b)
+pub fn tell_links(line: &mut Line, core: Core, tables: &[u64; 1152]) {
+    line.number(core.counters.links);
+    tell_links_heard(line, tables, core.counts.notifications);
+    tell_named(line, tables, core.counts.results);
 }

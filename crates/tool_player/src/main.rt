@@ -2,58 +2,44 @@
 // (docs/TRACE.md).
 #![tactic(auto)]
 
-mod fresh;
 mod play;
-mod tell;
 
-use play::Going;
-use state_core::Core;
+use play::Player;
+use tool_lines::line;
 use tool_traces::record;
-use tool_traces::record::Next;
 
 // A line is written out in pieces of at most so many bytes.
 const ROOM: usize = 65_536;
 
-// The next record is read, played and answered.
-fn turn(
-    core: Core,
-    tables: &mut [u64; 1152],
-    body: &mut [u8],
-    store: &mut [u8],
-    out: &mut [u8],
-    to: &mut [u8],
-) -> Going {
-    let next = record::read_next(body);
-    match next {
-        Next::Record(tag, len) => play::one_record(core, tables, tag, len, body, store, out, to),
-        Next::End => Going { core, on: false },
-        Next::Unread(why) => {
-            tell::unread(to, why);
-            Going { core, on: false }
+// The next record is read, played and answered; whether there was one, and its line could be written.
+fn turn(player: &mut Player, body: &mut [u8]) -> bool {
+    match record::read_next(body) {
+        Ok(Some(next)) => player.play(next.tag, body.get(..next.len).unwrap_or(body)),
+        Ok(None) => false,
+        Err(why) => {
+            line::write(player.to, b"bad", |line| line.word(why.word().as_bytes()));
+            false
         }
     }
 }
 
-// A proved loop has to end, and nothing says that the input does: the turns are counted down from a number that no run uses up.
-fn run(tables: &mut [u64; 1152], body: &mut [u8], store: &mut [u8], out: &mut [u8], to: &mut [u8]) {
-    let mut core = fresh::core(fresh::OLD_MODE);
-    let mut turns = u64::MAX;
-    while 0 < turns {
-        let going = turn(core, tables, body, store, out, to);
-        if !going.on {
+// A proved loop has to end, and nothing says that the input does: the turns are counted up to a number that no run reaches.
+fn run(player: &mut Player, body: &mut [u8]) {
+    for _ in 0..u64::MAX {
+        if !turn(player, body) {
             break;
         }
-        let left = going.core;
-        core = left;
-        turns -= 1;
     }
 }
 
 fn main() {
-    let mut tables = [0u64; 1152];
     let mut body = [0u8; record::MOST_BODY];
-    let mut store = [0u8; state_places::STORE_SIZE];
-    let mut out = [0u8; state_places::OUTPUT_SIZE];
-    let mut to = [0u8; ROOM];
-    run(&mut tables, &mut body, &mut store, &mut out, &mut to);
+    let mut player = Player {
+        core: central::fresh::fresh_with(play::OLD_MODE).core,
+        tables: &mut [0u64; 1152],
+        store: &mut [0u8; state_places::STORE_SIZE],
+        out: &mut [0u8; state_places::OUTPUT_SIZE],
+        to: &mut [0u8; ROOM],
+    };
+    run(&mut player, &mut body);
 }
