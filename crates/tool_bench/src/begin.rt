@@ -31,11 +31,9 @@ const RESPONSE: u64 = 0x0100_0000;
 const NO_RESPONSE: u64 = 0x1_0000_0000;
 
 fn running(r: Row) -> Running {
-    let deadline = r.deadline;
-    let step = r.step;
     Running {
-        deadline,
-        step,
+        deadline: r.deadline,
+        step: r.step,
         index: 0,
         cursor: 1,
         len: r.len,
@@ -60,13 +58,11 @@ fn bearer(r: Row) -> Bearer {
 }
 
 pub fn core(r: Row) -> Core {
-    let counts = r.counts;
-    let counters = r.counters;
     Core {
         running: running(r),
         bearer: bearer(r),
-        counters,
-        counts,
+        counters: r.counters,
+        counts: r.counts,
         reports: 64,
         key_count: r.asked,
         options: Options { strict: false },
@@ -87,19 +83,15 @@ fn lay(tables: &mut [u64; 1152], at: usize, n: usize, first: u64, by: u64)
     requires { at + n ≤ tables_size }
 {
     let mut word = first;
-    let mut i = 0;
-    while i < n {
-        let p = at + i;
-        tables[p] = word;
-        word = std::num::wrapping_add_u64(word, by);
-        i += 1;
+    for place in &mut tables[at..at + n] {
+        *place = word;
+        word = word.wrapping_add(by);
     }
 }
 
 // Every waiting step is the same.
 fn lay_steps(tables: &mut [u64; 1152], r: Row) {
-    let step = r.step;
-    words_step::put_step(tables, 0, step, r.len);
+    words_step::put_step(tables, 0, r.step, r.len);
     let word = tables[words::STEP];
     let low = tables[words::STEP_LOW];
     let high = tables[words::STEP_HIGH];
@@ -112,7 +104,7 @@ fn lay_steps(tables: &mut [u64; 1152], r: Row) {
 
 // What is kept of every notification, of so many bytes.
 fn notification_word(heard: u8) -> u64 {
-    NOTIFICATION + LENGTH * (heard as u64)
+    NOTIFICATION + LENGTH * u64::from(heard)
 }
 
 fn lay_known(tables: &mut [u64; 1152], r: Row) {
@@ -139,11 +131,11 @@ fn lay_known(tables: &mut [u64; 1152], r: Row) {
 }
 
 // What is heard of every advertiser.
-fn report_word(response: u8) -> u64 {
-    if response < words_report::NO_RESPONSE {
-        return REPORT + RESPONSE * (response as u64);
+fn report_word(response: Option<u8>) -> u64 {
+    match response {
+        Some(len) => REPORT + RESPONSE * u64::from(len),
+        None => REPORT + NO_RESPONSE,
     }
-    REPORT + NO_RESPONSE
 }
 
 fn lay_heard(tables: &mut [u64; 1152], r: Row) {

@@ -18,10 +18,10 @@ pub struct Row {
     pub heard: u8,
     pub linked: bool,
     pub pending: u8,
-    // The first advertiser that is kept, how many are asked, and the length of a scan response, where 32 is none.
+    // The first advertiser that is kept, how many are asked, and the length of a scan response, if there is one.
     pub first: u32,
     pub asked: usize,
-    pub response: u8,
+    pub response: Option<u8>,
 }
 
 // The link's.
@@ -51,21 +51,31 @@ const HALF_FULL: Counts = Counts {
     notifications: 16,
 };
 
-fn counters(notified: u64, wait_from: u64) -> Counters {
-    Counters {
-        next_index: 1,
-        refused_steps: 0,
-        notified,
-        wait_from,
-        links: 0,
-    }
-}
+const COUNTERS: Counters = Counters {
+    next_index: 1,
+    refused_steps: 0,
+    notified: 0,
+    wait_from: 0,
+    links: 0,
+};
+
+// What most rows have.
+const PLAIN: Row = Row {
+    step: WAIT,
+    len: 0,
+    phase: 0,
+    deadline: LATE,
+    counts: EMPTY,
+    counters: COUNTERS,
+    heard: HEARD,
+    linked: false,
+    pending: 0,
+    first: 0,
+    asked: 0,
+    response: None,
+};
 
 // ---- advertisements
-
-pub const MISSED: u8 = 1;
-
-const CONNECT: u8 = 2;
 
 pub const CONNECTS: Step = Step::Connect {
     target: Target::Service(UNLISTED),
@@ -75,38 +85,64 @@ pub const CONNECTS: Step = Step::Connect {
     within_ms: LONG,
 };
 
-// How many advertisers a row has.
-pub fn advertisers(row: u8) -> u32 {
-    if row == MISSED { 100 } else { 64 }
+const SCANS: Step = Step::Scan { ms: LONG };
+
+// What the advertisers meet.
+#[derive(Clone, Copy, PartialEq, Eq)]
+pub enum Listening {
+    // A Scan, 64 advertisers, all known.
+    Known,
+    // A Scan, 100 advertisers, the last 64 of them known.
+    Missed,
+    // A Connect by a service that no one lists, 64 advertisers, all known and with a scan response.
+    Unlisted,
 }
 
-fn listens(step: Step, first: u32, asked: usize, response: u8, half: bool) -> Row {
-    Row {
-        step,
-        len: 0,
-        phase: 0,
-        deadline: LATE,
-        counts: if half { HALF_FULL } else { EMPTY },
-        counters: counters(if half { 16 } else { 0 }, 0),
-        heard: HEARD,
-        linked: false,
-        pending: 0,
-        first,
-        asked,
-        response,
+// By the number that ./bench has for it.
+impl From<u8> for Listening {
+    fn from(row: u8) -> Self {
+        match row {
+            1 => Listening::Missed,
+            2 => Listening::Unlisted,
+            _ => Listening::Known,
+        }
     }
 }
 
-// Row 0: a Scan, 64 advertisers, all known. Row 1: a Scan, 100 advertisers, the last 64 of them known. Row 2: a Connect by a service
-// that no one lists, 64 advertisers, all known and with a scan response.
-pub fn listening(row: u8, half: bool) -> Row {
-    if row == CONNECT {
-        return listens(CONNECTS, 0, 0, 31, half);
+impl Listening {
+    // How many advertisers there are.
+    pub fn advertisers(self) -> u32 {
+        if self == Listening::Missed { 100 } else { 64 }
     }
-    if row == MISSED {
-        return listens(Step::Scan { ms: LONG }, 36, 100, 32, half);
+
+    pub fn row(self, half: bool) -> Row {
+        let plain = Row {
+            counts: if half { HALF_FULL } else { EMPTY },
+            counters: Counters {
+                notified: if half { 16 } else { 0 },
+                ..COUNTERS
+            },
+            ..PLAIN
+        };
+        match self {
+            Listening::Known => Row {
+                step: SCANS,
+                asked: 64,
+                ..plain
+            },
+            Listening::Missed => Row {
+                step: SCANS,
+                first: 36,
+                asked: 100,
+                ..plain
+            },
+            Listening::Unlisted => Row {
+                step: CONNECTS,
+                response: Some(31),
+                ..plain
+            },
+        }
     }
-    listens(Step::Scan { ms: LONG }, 0, 64, 32, half)
 }
 
 // ---- timer calls
@@ -114,34 +150,16 @@ pub fn listening(row: u8, half: bool) -> Row {
 // A wait runs until 1 ms, and 64 more wait.
 pub fn timed() -> Row {
     Row {
-        step: WAIT,
-        len: 0,
-        phase: 0,
         deadline: Micros(1000),
         counts: Counts {
             waiting: 64,
-            results: 0,
-            services: 0,
-            characteristics: 0,
-            notifications: 0,
+            ..EMPTY
         },
-        counters: counters(0, 0),
-        heard: HEARD,
-        linked: false,
-        pending: 0,
-        first: 0,
-        asked: 0,
-        response: 32,
+        ..PLAIN
     }
 }
 
 // ---- fragments
-
-const GOES_ON: u8 = 1;
-
-const READS: u8 = 2;
-
-const DISCOVERS: u8 = 3;
 
 pub const WAITS: Step = Step::WaitNotification {
     characteristic: UNLISTED,
@@ -149,63 +167,107 @@ pub const WAITS: Step = Step::WaitNotification {
     age: Age::Any,
 };
 
-fn talks(step: Step, pending: u8, waiting: usize, characteristics: usize, wait_from: u64) -> Row {
-    Row {
-        step,
-        len: 0,
-        phase: 0,
-        deadline: LATE,
-        counts: Counts {
-            waiting,
-            results: 0,
-            services: 1,
-            characteristics,
-            notifications: 32,
-        },
-        counters: counters(32, wait_from),
-        heard: HEARD,
-        linked: true,
-        pending,
-        first: 0,
-        asked: 0,
-        response: 32,
-    }
-}
+const TALKED: Counts = Counts {
+    waiting: 0,
+    results: 0,
+    services: 1,
+    characteristics: 20,
+    notifications: 32,
+};
 
-fn looks_for(r: Row, len: u8) -> Row {
-    let mut o = r;
-    o.len = len;
-    o
-}
-
-fn in_phase(r: Row, phase: u8) -> Row {
-    let mut o = r;
-    o.phase = phase;
-    o
-}
+// A link is there, and 32 notifications were heard.
+const TALKS: Row = Row {
+    step: WAITS,
+    len: 0,
+    phase: 0,
+    deadline: LATE,
+    counts: TALKED,
+    counters: Counters {
+        next_index: 1,
+        refused_steps: 0,
+        notified: 32,
+        wait_from: 0,
+        links: 0,
+    },
+    heard: HEARD,
+    linked: true,
+    pending: 0,
+    first: 0,
+    asked: 0,
+    response: None,
+};
 
 // A wait looks at all that is kept: for `needle` bytes in values of `each`.
 pub fn searching(each: u8, needle: u8) -> Row {
-    let mut o = looks_for(talks(WAITS, 0, 0, 20, 0), needle);
-    o.heard = each;
-    o
+    Row {
+        len: needle,
+        heard: each,
+        ..TALKS
+    }
 }
 
-// Row 0: 65 waits of 4 bytes, which nothing kept ends. Row 1: one, which looks at all that is kept. Row 2: 65 Reads. Row 3: discovery
-// asks for the characteristics of a service.
-pub fn talking(row: u8) -> Row {
-    if row == GOES_ON {
-        return searching(HEARD, 4);
+// What a fragment meets.
+#[derive(Clone, Copy)]
+pub enum Talking {
+    // 65 waits of 4 bytes, which nothing kept ends.
+    Ends,
+    // One, which looks at all that is kept.
+    GoesOn,
+    // 65 Reads.
+    Reads,
+    // Discovery asks for the characteristics of a service.
+    Discovers,
+}
+
+// By the number that ./bench has for it.
+impl From<u8> for Talking {
+    fn from(row: u8) -> Self {
+        match row {
+            1 => Talking::GoesOn,
+            2 => Talking::Reads,
+            3 => Talking::Discovers,
+            _ => Talking::Ends,
+        }
     }
-    if row == READS {
-        let step = Step::Read {
-            characteristic: UNLISTED,
-        };
-        return talks(step, op::READ_REQ, 64, 20, 0);
+}
+
+impl Talking {
+    pub fn row(self) -> Row {
+        match self {
+            Talking::Ends => Row {
+                len: 4,
+                counts: Counts {
+                    waiting: 64,
+                    ..TALKED
+                },
+                counters: Counters {
+                    wait_from: 32,
+                    ..TALKS.counters
+                },
+                ..TALKS
+            },
+            Talking::GoesOn => searching(HEARD, 4),
+            Talking::Reads => Row {
+                step: Step::Read {
+                    characteristic: UNLISTED,
+                },
+                pending: op::READ_REQ,
+                counts: Counts {
+                    waiting: 64,
+                    ..TALKED
+                },
+                ..TALKS
+            },
+            Talking::Discovers => Row {
+                step: Step::DiscoverCharacteristics { service: UNLISTED },
+                phase: 1,
+                pending: op::READ_BY_TYPE_REQ,
+                counts: Counts {
+                    characteristics: 0,
+                    ..TALKED
+                },
+                ..TALKS
+            },
+        }
     }
-    if row == DISCOVERS {
-        let step = Step::DiscoverCharacteristics { service: UNLISTED };
-        return in_phase(talks(step, op::READ_BY_TYPE_REQ, 0, 0, 0), 1);
-    }
-    looks_for(talks(WAITS, 0, 64, 20, 32), 4)
 }

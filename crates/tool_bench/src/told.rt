@@ -1,30 +1,22 @@
 // What a loop answers: what its calls gave, and what stands at its end. The harness has the same of the Rust.
 use state_core::Core;
 use state_refusals::Refusal;
+use tool_digest::more;
 
-// A prime above 2^32.
-const PRIME: u64 = 4_294_967_311;
-
-const FACTOR: u64 = 1_000_003;
-
-// 2^32.
-const HALF: u64 = 4_294_967_296;
-
-fn join(h: u64, half: u64) -> u64 {
-    ((h % PRIME) * FACTOR + half % HALF) % PRIME
+// What a call refused and gave.
+pub fn call(refusal: Option<Refusal>, given: usize) -> u64 {
+    u64::from(state_refusals::told_number(refusal)).wrapping_add(given as u64)
 }
 
-// The number h with one more number x.
-fn more(h: u64, x: u64) -> u64 {
-    join(join(h, x / HALF), x)
+// What a batch left.
+pub fn batch(refusal: Option<Refusal>, left: Core) -> u64 {
+    call(refusal, left.counts.waiting).wrapping_add(left.counts.results as u64)
 }
 
-// What a call gave.
-pub fn with_call(sum: u64, refusal: Option<Refusal>, given: usize) -> u64 {
-    std::num::wrapping_add_u64(
-        std::num::wrapping_add_u64(sum, state_refusals::told_number(refusal) as u64),
-        given as u64,
-    )
+// What a link left when it came and when it went.
+pub fn link(came: Option<Refusal>, met: Core, went: Option<Refusal>, parted: Core) -> u64 {
+    let first = call(came, met.bearer.link.handle as usize);
+    first.wrapping_add(call(went, parted.counts.results))
 }
 
 // What stands.

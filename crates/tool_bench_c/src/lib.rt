@@ -10,7 +10,7 @@ pub extern "C" fn lent_advertising(
     store: &mut [u8],
     data: &[u8],
 ) -> u64 {
-    tool_bench::lent_advertising(n, row, half, tables, store, data)
+    tool_bench::lent_advertising(n, row.into(), half, tables, store, data)
 }
 
 #[unsafe(no_mangle)]
@@ -55,7 +55,7 @@ pub extern "C" fn lent_fragments(
     out: &mut [u8],
     fragment: &[u8],
 ) -> u64 {
-    tool_bench::lent_fragments(n, row, start, tables, store, out, fragment)
+    tool_bench::lent_fragments(n, row.into(), start, tables, store, out, fragment)
 }
 
 #[unsafe(no_mangle)]

@@ -3,10 +3,12 @@
 // advertisers, all known.
 #![tactic(auto)]
 
-mod by_value;
-mod on_tables;
+mod rounds;
 
-use tool_bench::{begin, row};
+use tool_bench::begin;
+use tool_bench::calls::Lent;
+use tool_bench::row::Listening;
+use tool_bench_value::calls::ByValue;
 
 #[unsafe(no_mangle)]
 pub extern "C" fn lent_mixed(
@@ -16,13 +18,23 @@ pub extern "C" fn lent_mixed(
     out: &mut [u8],
     data: &[u8],
 ) -> u64 {
-    let r = row::listening(0, false);
+    let r = Listening::Known.row(false);
     begin::lay_tables(tables, r);
-    on_tables::rounds(begin::core(r), tables, store, out, n, data)
+    let mut lent = Lent {
+        core: begin::core(r),
+        tables,
+        store,
+        out,
+    };
+    rounds::rounds(&mut lent, n, data)
 }
 
 #[unsafe(no_mangle)]
 pub extern "C" fn value_mixed(n: u32, store: &mut [u8], out: &mut [u8], data: &[u8]) -> u64 {
-    let s = tool_bench_value::begin::state(row::listening(0, false));
-    by_value::rounds(s, store, out, n, data)
+    let mut value = ByValue {
+        state: tool_bench_value::begin::state(Listening::Known.row(false)),
+        store,
+        out,
+    };
+    rounds::rounds(&mut value, n, data)
 }

@@ -3,50 +3,73 @@
 #![tactic(auto)]
 
 pub mod begin;
-mod hear;
-mod play;
-mod talk;
+pub mod calls;
 
-use tool_bench::row;
+use calls::ByValue;
+use tool_bench::row::{Listening, Talking};
+use tool_bench::{loops, row};
 
 // What n advertisements cost, by the rows of lent_advertising.
-pub fn value_advertising(n: u32, row: u8, half: bool, store: &mut [u8], data: &[u8]) -> u64 {
-    let s = begin::state(row::listening(row, half));
-    hear::round(s, store, n, row::advertisers(row), data)
+pub fn value_advertising(
+    n: u32,
+    kind: Listening,
+    half: bool,
+    store: &mut [u8],
+    data: &[u8],
+) -> u64 {
+    let mut value = ByValue {
+        state: begin::state(kind.row(half)),
+        store,
+        out: &mut [],
+    };
+    loops::advertising(&mut value, n, kind.advertisers(), data)
 }
 
 // What n batches of 64 steps cost, of waits or of steps that end at once. No step has a value: the lent values may be no bytes.
 pub fn value_batches(n: u32, ends: bool, store: &mut [u8], out: &mut [u8], values: &[u8]) -> u64 {
-    play::batches(n, ends, store, out, values)
+    let mut value = ByValue {
+        state: central::fresh::fresh(),
+        store,
+        out,
+    };
+    loops::batches(&mut value, n, ends, values)
 }
 
 // What n timer calls cost that each end a step; n is at most 64.
 pub fn value_timers(n: u32, store: &mut [u8], out: &mut [u8]) -> u64 {
-    play::timers(begin::state(row::timed()), store, out, n)
+    let mut value = ByValue {
+        state: begin::state(row::timed()),
+        store,
+        out,
+    };
+    loops::timers(&mut value, n)
 }
 
 // What n links cost that come and go.
 pub fn value_links(n: u32, store: &mut [u8], out: &mut [u8]) -> u64 {
-    play::links(store, out, n)
+    let mut value = ByValue {
+        state: central::fresh::fresh(),
+        store,
+        out,
+    };
+    loops::links(&mut value, n)
 }
 
 // What n fragments cost, by the rows of lent_fragments.
 pub fn value_fragments(
     n: u32,
-    row: u8,
+    kind: Talking,
     start: bool,
     store: &mut [u8],
     out: &mut [u8],
     fragment: &[u8],
 ) -> u64 {
-    talk::fragments(
-        begin::state(row::talking(row)),
+    let mut value = ByValue {
+        state: begin::state(kind.row()),
         store,
         out,
-        n,
-        start,
-        fragment,
-    )
+    };
+    loops::fragments(&mut value, n, start, fragment)
 }
 
 // What n notifications cost under a wait that goes on, as lent_searches.
@@ -58,12 +81,10 @@ pub fn value_searches(
     out: &mut [u8],
     fragment: &[u8],
 ) -> u64 {
-    talk::fragments(
-        begin::state(row::searching(each, needle)),
+    let mut value = ByValue {
+        state: begin::state(row::searching(each, needle)),
         store,
         out,
-        n,
-        true,
-        fragment,
-    )
+    };
+    loops::fragments(&mut value, n, true, fragment)
 }

@@ -9,7 +9,7 @@ pub extern "C" fn value_advertising(
     store: &mut [u8],
     data: &[u8],
 ) -> u64 {
-    tool_bench_value::value_advertising(n, row, half, store, data)
+    tool_bench_value::value_advertising(n, row.into(), half, store, data)
 }
 
 #[unsafe(no_mangle)]
@@ -42,7 +42,7 @@ pub extern "C" fn value_fragments(
     out: &mut [u8],
     fragment: &[u8],
 ) -> u64 {
-    tool_bench_value::value_fragments(n, row, start, store, out, fragment)
+    tool_bench_value::value_fragments(n, row.into(), start, store, out, fragment)
 }
 
 #[unsafe(no_mangle)]

@@ -1,9 +1,9 @@
 // What the calls begin with.
 use script_rules::Batch;
-use state::{Running, Step};
+use state::Step;
 use state_core::Core;
 use time::Micros;
-use tool_bench::row::Row;
+use tool_bench::row::{Listening, Row, Talking};
 use tool_bench::{begin, play, row};
 
 // How many bytes each wait looks for.
@@ -11,24 +11,18 @@ const SOUGHT: usize = 4;
 
 // A Connect, with half of each table.
 pub fn connecting() -> Row {
-    row::listening(2, true)
+    Listening::Unlisted.row(true)
 }
 
 // A step runs on a link until 1 ms, and 64 waits are behind it. They look at all that is kept.
 fn before_waits(step: Step) -> Core {
-    let running = Running {
-        deadline: Micros(1000),
+    let mut c = begin::core(Row {
         step,
-        index: 0,
-        cursor: 1,
         len: 0,
-        phase: 0,
-        active: true,
-        dated: true,
-    };
-    let mut c = begin::core(row::talking(0));
+        deadline: Micros(1000),
+        ..Talking::Ends.row()
+    });
     c.counters.wait_from = 0;
-    c.running = running;
     c
 }
 

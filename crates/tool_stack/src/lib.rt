@@ -4,7 +4,9 @@
 
 mod begun;
 
+use state_refusals::Refusal;
 use time::Micros;
+use tool_bench::row::Talking;
 use tool_bench::{begin, hear, row};
 
 const NOW: Micros = Micros(1000);
@@ -23,7 +25,7 @@ pub extern "C" fn stack_lay_timed(tables: &mut [u64; 1152]) {
 
 #[unsafe(no_mangle)]
 pub extern "C" fn stack_lay_talking(tables: &mut [u64; 1152], row: u8) {
-    begin::lay_tables(tables, row::talking(row));
+    begin::lay_tables(tables, Talking::from(row).row());
 }
 
 // ---- the calls: where one checks a wait, its tables are those of fragments
@@ -69,7 +71,7 @@ pub extern "C" fn stack_on_connected(
 
 #[unsafe(no_mangle)]
 pub extern "C" fn stack_on_disconnected(tables: &mut [u64; 1152], store: &mut [u8]) -> u8 {
-    let core = begin::core(row::talking(0));
+    let core = begin::core(Talking::Ends.row());
     state_refusals::told_number(script_events::on_disconnected(core, tables, store, NOW).refusal)
 }
 
@@ -81,7 +83,7 @@ pub extern "C" fn stack_on_fragment(
     out: &mut [u8],
     frame: &[u8],
 ) -> u8 {
-    let core = begin::core(row::talking(row));
+    let core = begin::core(Talking::from(row).row());
     state_refusals::told_number(
         link_call::on_fragment(core, tables, store, out, NOW, true, frame).refusal,
     )
