@@ -10,6 +10,7 @@
 
 use att_pdu::{err, op};
 use l2cap::cid;
+use std::ops::RangeInclusive;
 
 pub mod uuids;
 
@@ -51,59 +52,42 @@ fn refuse(to: &mut [u8], opcode: u8, handle: u16, code: u8) -> usize {
     send(to, &pdu)
 }
 
-fn within(handle: u16, start: u16, end: u16) -> bool {
-    (start <= handle) & (handle <= end)
-}
+// What the head answers to a request about handles, by the first handle that it is about. UUIDs of 2 and 16 bytes do not go into one
+// answer: a service an answer, and a characteristic.
+static SERVICES: [(u16, &[u8]); 2] = [
+    (BATTERY, b"\x11\x06\x01\x00\x04\x00\x0F\x18"),
+    (
+        BAY,
+        b"\x11\x14\x05\x00\x0A\x00\x9E\xCA\xDC\x24\x0E\xE5\xA9\xE0\x93\xF3\xA3\xB5\x01\x00\x40\x6E",
+    ),
+];
 
-// UUIDs of 2 and 16 bytes do not go into one answer: a service an answer.
-fn services(to: &mut [u8], start: u16, end: u16) -> usize {
-    if within(BATTERY, start, end) {
-        return send(to, b"\x11\x06\x01\x00\x04\x00\x0F\x18");
-    }
-    if within(BAY, start, end) {
-        return send(
-            to,
-            b"\x11\x14\x05\x00\x0A\x00\x9E\xCA\xDC\x24\x0E\xE5\xA9\xE0\x93\xF3\xA3\xB5\x01\x00\x40\x6E",
-        );
-    }
-    refuse(
-        to,
-        op::READ_BY_GROUP_TYPE_REQ,
-        start,
-        err::ATTRIBUTE_NOT_FOUND,
-    )
-}
-
-fn characteristics(to: &mut [u8], start: u16, end: u16) -> usize {
-    if within(LEVEL, start, end) {
-        return send(to, b"\x09\x07\x02\x00\x12\x03\x00\x19\x2A");
-    }
-    if within(OCCUPANCY, start, end) {
-        return send(
-            to,
-            b"\x09\x15\x06\x00\x12\x07\x00\x9E\xCA\xDC\x24\x0E\xE5\xA9\xE0\x93\xF3\xA3\xB5\x03\x00\x40\x6E",
-        );
-    }
-    if within(STRING, start, end) {
-        return send(to, b"\x09\x07\x09\x00\x02\x0A\x00\x3D\x2A");
-    }
-    refuse(to, op::READ_BY_TYPE_REQ, start, err::ATTRIBUTE_NOT_FOUND)
-}
+static CHARACTERISTICS: [(u16, &[u8]); 3] = [
+    (LEVEL, b"\x09\x07\x02\x00\x12\x03\x00\x19\x2A"),
+    (
+        OCCUPANCY,
+        b"\x09\x15\x06\x00\x12\x07\x00\x9E\xCA\xDC\x24\x0E\xE5\xA9\xE0\x93\xF3\xA3\xB5\x03\x00\x40\x6E",
+    ),
+    (STRING, b"\x09\x07\x09\x00\x02\x0A\x00\x3D\x2A"),
+];
 
 // The central asks behind values alone: what can be there are configurations.
-fn descriptors(to: &mut [u8], start: u16, end: u16) -> usize {
-    if within(LEVEL_CONFIGURATION, start, end) {
-        return send(to, b"\x05\x01\x04\x00\x02\x29");
+static DESCRIPTORS: [(u16, &[u8]); 2] = [
+    (LEVEL_CONFIGURATION, b"\x05\x01\x04\x00\x02\x29"),
+    (OCCUPANCY_CONFIGURATION, b"\x05\x01\x08\x00\x02\x29"),
+];
+
+// The first answer about one of these handles.
+fn list(
+    to: &mut [u8],
+    answers: &[(u16, &[u8])],
+    opcode: u8,
+    handles: RangeInclusive<u16>,
+) -> usize {
+    match answers.iter().find(|a| handles.contains(&a.0)) {
+        Some((_, pdu)) => send(to, pdu),
+        None => refuse(to, opcode, *handles.start(), err::ATTRIBUTE_NOT_FOUND),
     }
-    if within(OCCUPANCY_CONFIGURATION, start, end) {
-        return send(to, b"\x05\x01\x08\x00\x02\x29");
-    }
-    refuse(
-        to,
-        op::FIND_INFORMATION_REQ,
-        start,
-        err::ATTRIBUTE_NOT_FOUND,
-    )
 }
 
 fn read(to: &mut [u8], handle: u16) -> usize {
@@ -128,16 +112,16 @@ fn exchange(to: &mut [u8]) -> usize {
 
 // The head's answer to a frame, written to `to`: its length, or 0 for none.
 pub fn answer(frame: &[u8], to: &mut [u8]) -> usize {
-    if frame.len() <= OPCODE_AT {
+    let Some(opcode) = frame.get(OPCODE_AT) else {
         return 0;
-    }
+    };
     let start = bytes_numbers::le16(frame, START_AT);
-    let end = bytes_numbers::le16(frame, END_AT);
-    match frame[OPCODE_AT] {
+    let handles = start..=bytes_numbers::le16(frame, END_AT);
+    match *opcode {
         op::EXCHANGE_MTU_REQ => exchange(to),
-        op::READ_BY_GROUP_TYPE_REQ => services(to, start, end),
-        op::READ_BY_TYPE_REQ => characteristics(to, start, end),
-        op::FIND_INFORMATION_REQ => descriptors(to, start, end),
+        op::READ_BY_GROUP_TYPE_REQ => list(to, &SERVICES, op::READ_BY_GROUP_TYPE_REQ, handles),
+        op::READ_BY_TYPE_REQ => list(to, &CHARACTERISTICS, op::READ_BY_TYPE_REQ, handles),
+        op::FIND_INFORMATION_REQ => list(to, &DESCRIPTORS, op::FIND_INFORMATION_REQ, handles),
         op::READ_REQ => read(to, start),
         op::WRITE_REQ => write(to, start),
         _ => 0,

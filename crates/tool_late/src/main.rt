@@ -5,6 +5,7 @@ mod play;
 mod scripts;
 mod story;
 
+use play::Library;
 use state::Options;
 
 fn heading(words: &[u8]) {
@@ -39,28 +40,23 @@ fn strict_rule() {
     );
 }
 
-fn old_mode(store: &mut [u8], out: &mut [u8]) {
-    let s = central::fresh::fresh_with(Options { strict: false });
-    let core = s.core;
-    let mut tables = s.tables;
-    heading(b"The old mode");
-    story::old(core, &mut tables, store, out);
-    old_rule();
-}
-
-fn strict_mode(store: &mut [u8], out: &mut [u8]) {
-    let s = central::fresh::fresh_with(Options { strict: true });
-    let core = s.core;
-    let mut tables = s.tables;
-    heading(b"Strict mode");
-    story::strict(core, &mut tables, store, out);
-    strict_rule();
+// A fresh state, with the mode that is chosen.
+fn begin<'a>(strict: bool, store: &'a mut [u8], out: &'a mut [u8]) -> Library<'a> {
+    Library {
+        state: central::fresh::fresh_with(Options { strict }),
+        store,
+        out,
+    }
 }
 
 fn main() {
     let mut store = [0u8; state_places::STORE_SIZE];
     let mut out = [0u8; state_places::OUTPUT_SIZE];
     scene();
-    old_mode(&mut store, &mut out);
-    strict_mode(&mut store, &mut out);
+    heading(b"The old mode");
+    story::old(&mut begin(false, &mut store, &mut out));
+    old_rule();
+    heading(b"Strict mode");
+    story::strict(&mut begin(true, &mut store, &mut out));
+    strict_rule();
 }

@@ -13,41 +13,34 @@ pub fn reason(x: u8) {
     }
 }
 
-// ATT error codes from 0C on, Core Vol 3 Part F 3.4.1.1.
-fn late_error(x: u8) {
+// ATT error codes, Core Vol 3 Part F 3.4.1.1.
+fn error(x: u8) -> &'static [u8] {
     match x {
-        0x0C => tool_say::text(b"encryption key too short"),
-        0x0D => tool_say::text(b"invalid value length"),
-        0x0E => tool_say::text(b"unlikely error"),
-        0x0F => tool_say::text(b"insufficient encryption"),
-        0x10 => tool_say::text(b"unsupported group type"),
-        0x11 => tool_say::text(b"insufficient resources"),
-        _ => tool_say::text(b"another error"),
-    }
-}
-
-// ATT error codes below 0C.
-fn early_error(x: u8) {
-    match x {
-        0x01 => tool_say::text(b"invalid handle"),
-        0x02 => tool_say::text(b"read not permitted"),
-        0x03 => tool_say::text(b"write not permitted"),
-        0x04 => tool_say::text(b"invalid PDU"),
-        0x05 => tool_say::text(b"insufficient authentication"),
-        0x06 => tool_say::text(b"request not supported"),
-        0x07 => tool_say::text(b"invalid offset"),
-        0x08 => tool_say::text(b"insufficient authorization"),
-        0x09 => tool_say::text(b"prepare queue full"),
-        0x0A => tool_say::text(b"attribute not found"),
-        0x0B => tool_say::text(b"attribute not long"),
-        _ => late_error(x),
+        0x01 => b"invalid handle",
+        0x02 => b"read not permitted",
+        0x03 => b"write not permitted",
+        0x04 => b"invalid PDU",
+        0x05 => b"insufficient authentication",
+        0x06 => b"request not supported",
+        0x07 => b"invalid offset",
+        0x08 => b"insufficient authorization",
+        0x09 => b"prepare queue full",
+        0x0A => b"attribute not found",
+        0x0B => b"attribute not long",
+        0x0C => b"encryption key too short",
+        0x0D => b"invalid value length",
+        0x0E => b"unlikely error",
+        0x0F => b"insufficient encryption",
+        0x10 => b"unsupported group type",
+        0x11 => b"insufficient resources",
+        _ => b"another error",
     }
 }
 
 // An ATT error's number, and what it means.
 pub fn att_error(x: u8) {
     tool_say::told(b"error ", x as u64, b": ");
-    early_error(x);
+    tool_say::text(error(x));
 }
 
 // Why a call is refused.
@@ -73,23 +66,17 @@ pub fn refused(x: Option<Refusal>) {
     }
 }
 
-fn failed(s: StepStatus) {
-    match s {
-        StepStatus::AttError(code) => att_error(code),
-        StepStatus::TooLong => tool_say::text(b"too long"),
-        StepStatus::Disconnected => tool_say::text(b"disconnected"),
-        StepStatus::BearerClosed => tool_say::text(b"bearer closed"),
-        _ => tool_say::text(b"table full"),
-    }
-}
-
 // How a step ended.
 pub fn status(s: StepStatus) {
-    match s {
-        StepStatus::Ok => tool_say::text(b"ok"),
-        StepStatus::Timeout => tool_say::text(b"timeout"),
-        StepStatus::NotConnected => tool_say::text(b"not connected"),
-        StepStatus::NotFound => tool_say::text(b"not found"),
-        _ => failed(s),
-    }
+    tool_say::text(match s {
+        StepStatus::Ok => b"ok",
+        StepStatus::Timeout => b"timeout",
+        StepStatus::NotConnected => b"not connected",
+        StepStatus::NotFound => b"not found",
+        StepStatus::AttError(code) => return att_error(code),
+        StepStatus::TooLong => b"too long",
+        StepStatus::Disconnected => b"disconnected",
+        StepStatus::TableFull => b"table full",
+        StepStatus::BearerClosed => b"bearer closed",
+    });
 }

@@ -1,6 +1,8 @@
 // What calls give, in plain words: frames, link requests, results, moments.
 #![tactic(auto)]
 
+ghost use Rattle.std.specs.Prelude.{◌<◌};
+
 pub mod codes;
 pub mod names;
 mod pdu;
@@ -58,21 +60,19 @@ pub fn heard_at(at: Micros, s: &[u8]) {
     frame(Some(at), false, s);
 }
 
+// How long the frame is that begins here, by what it says.
+fn frame_size(s: &[u8]) -> usize
+    ensures { 0 < result }
+{
+    pdu::HEADER + bytes_numbers::le16(s, 0) as usize
+}
+
 // The frames among the first bytes of an output, one after another.
-fn frames(when: Option<Micros>, out: &[u8], bytes: usize) {
-    if out.len() < bytes {
-        return;
-    }
-    // Kept: a while, since each frame tells how far the next one is.
-    let mut at = 0;
-    while pdu::HEADER <= bytes - at {
-        let n = bytes_numbers::le16(out, at) as usize;
-        if bytes - at - pdu::HEADER < n {
-            return;
-        }
-        let end = at + pdu::HEADER + n;
-        frame(when, true, &out[at..end]);
-        at = end;
+fn frames(at: Option<Micros>, out: &[u8], bytes: usize) {
+    let mut rest = out.get(..bytes).unwrap_or(&[]);
+    while let Some((first, behind)) = rest.split_at_checked(frame_size(rest)) {
+        frame(at, true, first);
+        rest = behind;
     }
 }
 
@@ -99,11 +99,13 @@ fn terminate(reason: u8) {
 fn request(r: Option<LinkRequest>) {
     match r {
         None => (),
-        Some(LinkRequest::Update {
-            interval,
-            latency,
-            timeout,
-        }) => update(interval, latency, timeout),
+        Some(
+            LinkRequest::Update {
+                interval,
+                latency,
+                timeout,
+            },
+        ) => update(interval, latency, timeout),
         Some(LinkRequest::Terminate { reason }) => terminate(reason),
     }
 }
@@ -111,8 +113,7 @@ fn request(r: Option<LinkRequest>) {
 // What a call sent: each frame, and the link request if there is one.
 pub fn sent(s: Sent, out: &[u8]) {
     frames(None, out, s.bytes);
-    let asked = s.request;
-    request(asked);
+    request(s.request);
 }
 
 // Each frame that a call sent, in a timeline.
@@ -147,15 +148,12 @@ pub fn result(index: u32, g: Result<Option<Given>, Refusal>, store: &[u8]) -> bo
 
 // The bytes of the store that stand at x; none where they are not there.
 pub fn value_at(store: &[u8], x: Span) -> &[u8] {
-    if bytes_bounds::is_inside(store.len(), x.at, x.len) {
-        &store[x.at..x.at + x.len]
-    } else {
-        &store[0..0]
-    }
+    let rest = store.get(x.at..).unwrap_or(&[]);
+    rest.get(..x.len).unwrap_or(&[])
 }
 
 fn value(v: &[u8]) {
-    if v.len() == 0 {
+    if v.is_empty() {
         return;
     }
     tool_say::text(b", value");

@@ -26,7 +26,7 @@ fn byte(s: &[u8], at: usize) -> u8 {
 
 // The bytes from n on.
 fn after(s: &[u8], n: usize) -> &[u8] {
-    s.get(n..).unwrap_or(&s[..0])
+    s.get(n..).unwrap_or(&[])
 }
 
 // Words and the number of two bytes.
@@ -48,23 +48,25 @@ fn error(s: &[u8]) {
 
 // ---- the entries of an answer
 
-// The UUID of an entry and, behind words, a handle of it.
-fn listed(e: &[u8], uuid_at: usize, words: &[u8], handle_at: usize) {
-    tool_say::text(b": ");
-    names::carried(after(e, uuid_at));
-    number(words, e, handle_at);
-}
-
-// A service has a start, an end and a UUID; a characteristic a declaration, properties, the handle of its value and a UUID; a
-// descriptor a handle and a UUID.
 fn entry(opcode: u8, e: &[u8]) {
+    tool_say::text(b": ");
     match opcode {
+        // Start, end and UUID.
         op::READ_BY_GROUP_TYPE_RSP => {
-            listed(e, 4, b", handles ", 0);
+            names::carried(after(e, 4));
+            number(b", handles ", e, 0);
             number(b" to ", e, 2);
         }
-        op::READ_BY_TYPE_RSP => listed(e, 5, b", value at handle ", 3),
-        _ => listed(e, 2, b", handle ", 0),
+        // Declaration, properties, the handle of the value, UUID.
+        op::READ_BY_TYPE_RSP => {
+            names::carried(after(e, 5));
+            number(b", value at handle ", e, 3);
+        }
+        // Handle and UUID.
+        _ => {
+            names::carried(after(e, 2));
+            number(b", handle ", e, 0);
+        }
     }
 }
 
@@ -104,11 +106,22 @@ fn read(s: &[u8]) {
     tool_say::told(b"a value of ", n as u64, b" bytes");
 }
 
-// Kept: a match on the opcode in five functions, each short; closures would name the same opcodes.
-
-// The answer to a read or a write, a notification or an indication.
-fn value(s: &[u8], opcode: u8) {
+// Kept: a match on opcodes as numbers, since a PDU has any byte there, and crate att_pdu names those that there are.
+fn att(s: &[u8], opcode: u8) {
     match opcode {
+        op::EXCHANGE_MTU_REQ => number(b"an MTU request, ", s, BODY_AT),
+        op::FIND_INFORMATION_REQ => range(b"a request for descriptors", s),
+        op::READ_BY_TYPE_REQ => range(b"a request for characteristics", s),
+        op::READ_BY_GROUP_TYPE_REQ => range(b"a request for services", s),
+        op::READ_REQ => number(b"a read request for handle ", s, BODY_AT),
+        op::WRITE_REQ => number(b"a write request for handle ", s, BODY_AT),
+        op::WRITE_CMD => number(b"a write command for handle ", s, BODY_AT),
+        op::HANDLE_VALUE_CFM => tool_say::text(b"a confirmation"),
+        op::ERROR_RSP => error(s),
+        op::EXCHANGE_MTU_RSP => number(b"an MTU response, ", s, BODY_AT),
+        op::FIND_INFORMATION_RSP => descriptors(s, opcode),
+        op::READ_BY_TYPE_RSP => listing(b"characteristics", s, opcode),
+        op::READ_BY_GROUP_TYPE_RSP => listing(b"services", s, opcode),
         op::READ_RSP => read(s),
         op::WRITE_RSP => tool_say::text(b"a write response"),
         op::HANDLE_VALUE_NTF => notified(b"a notification on handle ", s),
@@ -117,43 +130,9 @@ fn value(s: &[u8], opcode: u8) {
     }
 }
 
-// An error, or an answer that tells of the head.
-fn answer(s: &[u8], opcode: u8) {
-    match opcode {
-        op::ERROR_RSP => error(s),
-        op::EXCHANGE_MTU_RSP => number(b"an MTU response, ", s, BODY_AT),
-        op::FIND_INFORMATION_RSP => descriptors(s, opcode),
-        op::READ_BY_TYPE_RSP => listing(b"characteristics", s, opcode),
-        op::READ_BY_GROUP_TYPE_RSP => listing(b"services", s, opcode),
-        _ => value(s, opcode),
-    }
-}
-
-// A read, a write or a confirmation, or else an answer.
-fn access(s: &[u8], opcode: u8) {
-    match opcode {
-        op::READ_REQ => number(b"a read request for handle ", s, BODY_AT),
-        op::WRITE_REQ => number(b"a write request for handle ", s, BODY_AT),
-        op::WRITE_CMD => number(b"a write command for handle ", s, BODY_AT),
-        op::HANDLE_VALUE_CFM => tool_say::text(b"a confirmation"),
-        _ => answer(s, opcode),
-    }
-}
-
-// A request that asks about the head, or else another PDU.
-fn request(s: &[u8], opcode: u8) {
-    match opcode {
-        op::EXCHANGE_MTU_REQ => number(b"an MTU request, ", s, BODY_AT),
-        op::FIND_INFORMATION_REQ => range(b"a request for descriptors", s),
-        op::READ_BY_TYPE_REQ => range(b"a request for characteristics", s),
-        op::READ_BY_GROUP_TYPE_REQ => range(b"a request for services", s),
-        _ => access(s, opcode),
-    }
-}
-
 pub fn name(s: &[u8]) {
     match bytes_numbers::le16(s, 2) {
-        l2cap::cid::ATT => request(s, byte(s, HEADER)),
+        l2cap::cid::ATT => att(s, byte(s, HEADER)),
         l2cap::cid::SIGNALING => tool_say::text(b"a signaling command"),
         l2cap::cid::SMP => tool_say::text(b"a security manager command"),
         _ => tool_say::text(b"a frame of another channel"),
