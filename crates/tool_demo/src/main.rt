@@ -12,14 +12,13 @@ mod waits;
 
 use central::State;
 use play::{Night, Turn};
-use story::Part;
+use story::{Happening, Part};
 
 // Standard input.
 const STDIN_FILENO: i32 = 0;
 
 #[derive(Clone, Copy)]
 enum Form {
-    Silent,
     Words,
     Timeline,
 }
@@ -27,88 +26,54 @@ enum Form {
 // A part with the head's answers and the timer takes fewer turns.
 const MOST_TURNS: usize = 64;
 
-// `done` is the state at the end of the part.
-fn tell(
-    form: Form,
-    part: Part,
-    before: State,
-    t: Turn,
-    done: State,
-    store: &[u8],
-    out: &[u8],
-    data: &[u8],
-) {
-    match form {
-        Form::Silent => (),
-        Form::Words => prose::tell(part, before, t, store, out, data),
-        Form::Timeline => timeline::tell(part, before, t, done, store, out, data),
-    }
+type Store = [u8; state_places::STORE_SIZE];
+
+// What is lent to the library, and how what happens is told, if it is.
+#[derive(Drop)]
+struct Teller<'a> {
+    form: Option<Form>,
+    store: &'a mut Store,
+    out: &'a mut [u8],
 }
 
-fn turn(form: Form, part: Part, n: Night, done: State, store: &mut [u8], out: &mut [u8]) -> Night {
-    let mut to = [0u8; state_places::MAX_FRAME];
-    let before = n.state;
-    let h = play::happening(part, n, store);
-    let what = h.what;
-    let heard = story::bytes(what, play::first(out, n.sent), &mut to);
-    let data = play::first(&to, heard);
-    let t = play::next(part, n, h, data, store, out);
-    tell(form, part, before, t, done, store, out, data);
-    let night = t.night;
-    night
-}
-
-fn run(
-    form: Form,
-    part: Part,
-    from: State,
-    done: State,
-    store: &mut [u8],
-    out: &mut [u8],
-) -> Night {
-    let mut n = play::begins(from);
-    let mut left = MOST_TURNS;
-    while 0 < left {
-        if play::is_over(part, n) {
-            return n;
+impl Teller<'_> {
+    // `done` is the state at the end of the part.
+    fn tell(&self, t: &Turn, done: State) {
+        match self.form {
+            None => (),
+            Some(Form::Words) => prose::tell(t, self.store, self.out),
+            Some(Form::Timeline) => timeline::tell(t, done, self.store, self.out),
         }
-        n = turn(form, part, n, done, store, out);
-        left -= 1;
     }
-    n
-}
 
-fn copy(to: &mut [u8], s: &[u8]) {
-    bytes_copies::copy_in(to, 0, s, 0, s.len());
-}
+    fn turn(&mut self, n: Night, h: Happening, done: State) -> Night {
+        let mut to = [0u8; state_places::MAX_FRAME];
+        let heard = story::bytes(h.what, play::first(self.out, n.sent), &mut to);
+        let t = play::next(n, h, play::first(&to, heard), self.store, self.out);
+        self.tell(&t, done);
+        t.night
+    }
 
-// A part from a state on, with its store copied to `left`; the state and `left` as they are then.
-fn played(
-    form: Form,
-    part: Part,
-    from: State,
-    done: State,
-    store: &[u8],
-    left: &mut [u8],
-    out: &mut [u8],
-) -> State {
-    copy(left, store);
-    let night = run(form, part, from, done, left, out);
-    let state = night.state;
-    state
-}
+    // A part from a state and its store on; the state as it is then.
+    fn run(&mut self, part: Part, from: State, store: &Store, done: State) -> State {
+        *self.store = *store;
+        let mut n = play::begins(part, from);
+        for _ in 0..MOST_TURNS {
+            let Some(h) = play::happening(&n, self.store) else {
+                break;
+            };
+            n = self.turn(n, h, done);
+        }
+        n.state
+    }
 
-// The same. It is played in silence first, since a step's line in a timeline says how the step ends.
-fn play_part(
-    form: Form,
-    part: Part,
-    from: State,
-    store: &[u8],
-    left: &mut [u8],
-    out: &mut [u8],
-) -> State {
-    let done = played(Form::Silent, part, from, from, store, left, out);
-    played(form, part, from, done, store, left, out)
+    // The same. It is played in silence first, since a step's line in a timeline says how the step ends.
+    fn play(&mut self, part: Part, from: State, store: &Store) -> State {
+        let form = self.form.take();
+        let done = self.run(part, from, store, from);
+        self.form = form;
+        self.run(part, from, store, done)
+    }
 }
 
 fn heading(words: &[u8]) {
@@ -135,49 +100,35 @@ fn rule() {
     );
 }
 
-fn explain(form: Form) {
-    match form {
-        Form::Silent => (),
-        Form::Words => rule(),
-        Form::Timeline => (),
+fn mornings(teller: &mut Teller, evening: State, store: &Store) {
+    heading(b"05:00, with waits that have no age");
+    teller.play(Part::AnyAge, evening, store);
+    if let Some(Form::Words) = teller.form {
+        rule();
     }
-}
-
-fn aged_mornings(form: Form, evening: State, store: &[u8], left: &mut [u8], out: &mut [u8]) {
     heading(b"05:00 again, with aged waits: a car comes while step 12 waits");
-    play_part(form, Part::Fresh, evening, store, left, out);
+    teller.play(Part::Fresh, evening, store);
     heading(
         b"05:00 again, with aged waits: none comes while step 12 waits, and the one that comes then is too old for step 14",
     );
-    play_part(form, Part::Late, evening, store, left, out);
-}
-
-fn mornings(form: Form, evening: State, store: &[u8], left: &mut [u8], out: &mut [u8]) {
-    heading(b"05:00, with waits that have no age");
-    play_part(form, Part::AnyAge, evening, store, left, out);
-    explain(form);
-    aged_mornings(form, evening, store, left, out);
+    teller.play(Part::Late, evening, store);
 }
 
 fn tell_night(form: Form) {
-    let mut store = [0u8; state_places::STORE_SIZE];
-    let mut left = [0u8; state_places::STORE_SIZE];
-    let mut out = [0u8; state_places::OUTPUT_SIZE];
+    let mut teller = Teller {
+        form: Some(form),
+        store: &mut [0u8; state_places::STORE_SIZE],
+        out: &mut [0u8; state_places::OUTPUT_SIZE],
+    };
     tool_say::line(
         b"A collector plays scripts against a simulated bay head. Two UUIDs are the head's own:",
     );
     tool_tells::names::legend();
     heading(b"23:00");
-    let evening = play_part(
-        form,
-        Part::Evening,
-        central::fresh::fresh(),
-        &store,
-        &mut left,
-        &mut out,
-    );
-    copy(&mut store, &left);
-    mornings(form, evening, &store, &mut left, &mut out);
+    let empty = [0u8; state_places::STORE_SIZE];
+    let evening = teller.play(Part::Evening, central::fresh::fresh(), &empty);
+    let store = *teller.store;
+    mornings(&mut teller, evening, &store);
 }
 
 // 't' on standard input asks for the timeline.

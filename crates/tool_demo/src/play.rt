@@ -5,7 +5,7 @@ use central_answers::{Answer, UNSENT};
 use radio_match::AdvAction;
 use state::{Address, Sent};
 use state_refusals::Refusal;
-use story::{Happening, Part, What};
+use story::{Happening, Part, What, Why};
 use time::Micros;
 
 const HEAD: Address = Address {
@@ -32,10 +32,11 @@ pub const FRAGMENT: usize = 27;
 // The head takes 10 ms to answer.
 const ANSWERS_AFTER: Micros = Micros(10_000);
 
-// How far the night is: the library's state; when the last thing was; what is next of itself; how many bytes were sent; the number of
-// the first step of the part's script.
+// How far a part of the night is: the library's state; when the last thing was; what is next of itself; how many bytes were sent; the
+// number of the first step of the part's script.
 #[derive(Clone, Copy)]
 pub struct Night {
+    pub part: Part,
     pub state: State,
     pub now: Micros,
     pub next: usize,
@@ -43,11 +44,13 @@ pub struct Night {
     pub first_step: u32,
 }
 
-// What happened, what the call gave, and how far the night is then.
-#[derive(Clone, Copy)]
-pub struct Turn {
+// What happened and the bytes that were heard at it, on which state; what the call gave; how far the night is then.
+#[derive(Drop)]
+pub struct Turn<'a> {
+    pub before: State,
     pub night: Night,
     pub happening: Happening,
+    pub data: &'a [u8],
     pub action: AdvAction,
     pub refusal: Option<Refusal>,
     pub sent: Sent,
@@ -62,25 +65,37 @@ struct Did {
     sent: Sent,
 }
 
-fn did(state: State, refusal: Option<Refusal>, action: AdvAction, sent: Sent) -> Did {
-    Did {
-        state,
-        action,
-        refusal,
-        sent,
+impl From<Answer<State, Sent>> for Did {
+    fn from(a: Answer<State, Sent>) -> Self {
+        Did {
+            state: a.state,
+            action: AdvAction::Nothing,
+            refusal: a.refusal,
+            sent: a.gives,
+        }
     }
 }
 
-fn spoken(a: Answer<State, Sent>) -> Did {
-    did(a.state, a.refusal, AdvAction::Nothing, a.gives)
+impl From<Answer<State, ()>> for Did {
+    fn from(a: Answer<State, ()>) -> Self {
+        Did {
+            state: a.state,
+            action: AdvAction::Nothing,
+            refusal: a.refusal,
+            sent: UNSENT,
+        }
+    }
 }
 
-fn quiet(a: Answer<State, ()>) -> Did {
-    did(a.state, a.refusal, AdvAction::Nothing, UNSENT)
-}
-
-fn advertised(a: Answer<State, AdvAction>) -> Did {
-    did(a.state, a.refusal, a.gives, UNSENT)
+impl From<Answer<State, AdvAction>> for Did {
+    fn from(a: Answer<State, AdvAction>) -> Self {
+        Did {
+            state: a.state,
+            action: a.gives,
+            refusal: a.refusal,
+            sent: UNSENT,
+        }
+    }
 }
 
 fn who(head: bool) -> Address {
@@ -89,22 +104,17 @@ fn who(head: bool) -> Address {
 
 // The first n bytes, or all.
 pub fn first(s: &[u8], n: usize) -> &[u8] {
-    if s.len() < n {
-        return &s[0..];
-    }
-    &s[0..n]
-}
-
-// The bytes from n on.
-fn after(s: &[u8], n: usize) -> &[u8] {
-    if s.len() < n {
-        return &s[0..0];
-    }
-    &s[n..]
+    s.get(..n).unwrap_or(s)
 }
 
 // A frame comes in, as one fragment or as a start and a continuation.
-fn heard(s: State, store: &mut [u8], out: &mut [u8], now: Micros, frame: &[u8]) -> Answer<State, Sent> {
+fn heard(
+    s: State,
+    store: &mut [u8],
+    out: &mut [u8],
+    now: Micros,
+    frame: &[u8],
+) -> Answer<State, Sent> {
     let a = central::on_fragment(s, store, out, now, true, first(frame, FRAGMENT));
     if frame.len() <= FRAGMENT {
         return a;
@@ -112,37 +122,23 @@ fn heard(s: State, store: &mut [u8], out: &mut [u8], now: Micros, frame: &[u8]) 
     if a.refusal.is_some() {
         return a;
     }
-    let held = a.state;
-    central::on_fragment(held, store, out, now, false, after(frame, FRAGMENT))
+    central::on_fragment(a.state, store, out, now, false, &frame[FRAGMENT..])
 }
 
 // The call that the library gets.
-fn act(
-    s: State,
-    store: &mut [u8],
-    out: &mut [u8],
-    part: Part,
-    now: Micros,
-    what: What,
-    data: &[u8],
-) -> Did {
-    match what {
-        What::Script => spoken(central::push_steps(s, store, out, now, steps::of(part), b"")),
-        What::Advert { head } => advertised(central::on_advertising(
-            s,
-            store,
-            now,
-            CHANNEL,
-            ADV_IND,
-            who(head),
-            data,
-            false,
-        )),
-        What::Response => quiet(central::on_scan_response(s, store, now, HEAD, data)),
-        What::Timer => spoken(central::on_timer(s, store, out, now)),
-        What::Connected => spoken(central::on_connected(s, store, out, HANDLE, now)),
-        What::Frame { why: _ } => spoken(heard(s, store, out, now, data)),
-        What::Disconnected => quiet(central::on_disconnected(s, store, now)),
+fn act(n: Night, h: Happening, data: &[u8], store: &mut [u8], out: &mut [u8]) -> Did {
+    let s = n.state;
+    let now = h.at;
+    match h.what {
+        What::Script => central::push_steps(s, store, out, now, steps::of(n.part), b"").into(),
+        What::Advert { head } => {
+            central::on_advertising(s, store, now, CHANNEL, ADV_IND, who(head), data, false).into()
+        }
+        What::Response => central::on_scan_response(s, store, now, HEAD, data).into(),
+        What::Timer => central::on_timer(s, store, out, now).into(),
+        What::Connected => central::on_connected(s, store, out, HANDLE, now).into(),
+        What::Frame { why: _ } => heard(s, store, out, now, data).into(),
+        What::Disconnected => central::on_disconnected(s, store, now).into(),
     }
 }
 
@@ -158,72 +154,49 @@ fn or_timer(h: Happening, t: Result<Option<Micros>, Refusal>) -> Happening {
     }
 }
 
-// The head's answer to what was sent, or else the timer, or else the next of the story.
-pub fn happening(part: Part, n: Night, store: &[u8]) -> Happening {
-    let state = n.state;
-    let now = n.now;
+// The head's answer to what was sent, or else the timer, or else the next of the story; nothing where the part is over.
+pub fn happening(n: &Night, store: &[u8]) -> Option<Happening> {
     if n.sent == 0 {
-        return or_timer(
-            story::of_itself(part, n.next),
-            central::timer_us(state, store),
-        );
+        let next = story::of_itself(n.part, n.next)?;
+        return Some(or_timer(next, central::timer_us(n.state, store)));
     }
-    Happening {
-        at: time::later(now, ANSWERS_AFTER),
-        what: What::Frame {
-            why: story::ANSWERS,
-        },
+    Some(Happening {
+        at: time::later(n.now, ANSWERS_AFTER),
+        what: What::Frame { why: Why::Answers },
         of_itself: false,
-    }
-}
-
-fn further(n: Night, h: Happening, state: State, sent: usize) -> Night {
-    let now = h.at;
-    let mut next = n.next;
-    if h.of_itself {
-        next = std::num::wrapping_add_usize(next, 1);
-    }
-    Night {
-        state,
-        now,
-        next,
-        sent,
-        first_step: n.first_step,
-    }
+    })
 }
 
 // It happens, and these bytes are heard at it.
-pub fn next(
-    part: Part,
+pub fn next<'a>(
     n: Night,
     h: Happening,
-    data: &[u8],
+    data: &'a [u8],
     store: &mut [u8],
     out: &mut [u8],
-) -> Turn {
-    let before = n.state;
-    let what = h.what;
-    let at = h.at;
-    let did = act(before, store, out, part, at, what, data);
-    let state = did.state;
-    let action = did.action;
-    let sent = did.sent;
+) -> Turn<'a> {
+    let did = act(n, h, data, store, out);
     Turn {
-        night: further(n, h, state, sent.bytes),
+        before: n.state,
+        night: Night {
+            state: did.state,
+            now: h.at,
+            next: n.next.wrapping_add(usize::from(h.of_itself)),
+            sent: did.sent.bytes,
+            ..n
+        },
         happening: h,
-        action,
+        data,
+        action: did.action,
         refusal: did.refusal,
-        sent,
+        sent: did.sent,
     }
 }
 
-pub fn is_over(part: Part, n: Night) -> bool {
-    (n.sent == 0) & (story::count(part) <= n.next)
-}
-
 // A part begins where another left the state.
-pub fn begins(state: State) -> Night {
+pub fn begins(part: Part, state: State) -> Night {
     Night {
+        part,
         state,
         now: Micros(0),
         next: 0,

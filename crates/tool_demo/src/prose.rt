@@ -1,30 +1,17 @@
 // A part of the night in plain words: what happens, each frame both ways, how each step ends.
-use crate::{play, steps, story, waits};
-use central::State;
-use play::Turn;
+use crate::story::{Part, What, Why};
+use crate::{play, steps, waits};
+use play::{Night, Turn};
 use radio_match::AdvAction;
 use script_rules::Batch;
-use story::{Part, What};
-
-fn number(from: u32, i: usize) -> u64 {
-    std::num::wrapping_add_u64(from as u64, i as u64)
-}
 
 // The steps of a batch, numbered from a number on.
 fn script(b: Batch, from: u32) {
-    let all = b.steps;
-    let count = b.count;
-    let mut i = 0;
-    while i < 64 {
-        if count <= i {
-            return;
-        }
-        let p = all[i];
-        let step = p.step;
-        tool_say::told(b"    step ", number(from, i), b": ");
-        tool_tells::steps::step(step);
+    for (i, placed) in b.steps.iter().take(b.count).enumerate() {
+        let number = u64::from(from).wrapping_add(i as u64);
+        tool_say::told(b"    step ", number, b": ");
+        tool_tells::steps::step(placed.step);
         tool_say::line(b"");
-        i += 1;
     }
 }
 
@@ -68,19 +55,20 @@ fn fragments(n: usize) {
     }
 }
 
-fn frame(why: u8, s: &[u8]) {
+fn frame(why: Why, s: &[u8]) {
     match why {
-        story::ANSWERS => tool_say::line(b": the head answers"),
-        story::TAKEN => tool_say::line(b": a car comes, the head notifies"),
-        _ => tool_say::line(b": the car leaves, the head notifies"),
+        Why::Answers => tool_say::line(b": the head answers"),
+        Why::Taken => tool_say::line(b": a car comes, the head notifies"),
+        Why::Free => tool_say::line(b": the car leaves, the head notifies"),
     }
     tool_tells::heard(s);
     fragments(s.len());
 }
 
-fn happened(part: Part, what: What, first_step: u32, links: u64, s: &[u8]) {
+fn happened(night: &Night, what: What, s: &[u8]) {
+    let links = night.state.core.counters.links;
     match what {
-        What::Script => handed_in(part, first_step),
+        What::Script => handed_in(night.part, night.first_step),
         What::Advert { head } => advert(head, s),
         What::Response => data_of(b": the head responds to the scan", s),
         What::Timer => tool_say::line(b": the timer that the library asked for"),
@@ -106,24 +94,12 @@ fn acted(what: What, x: AdvAction) {
     }
 }
 
-pub fn tell(part: Part, before: State, t: Turn, store: &[u8], out: &[u8], data: &[u8]) {
+pub fn tell(t: &Turn, store: &[u8], out: &[u8]) {
     let h = t.happening;
-    let at = h.at;
-    let what = h.what;
-    let night = t.night;
-    let state = night.state;
-    let todo = t.action;
-    let sent = t.sent;
-    tool_tells::moment(at);
-    happened(
-        part,
-        what,
-        night.first_step,
-        state.core.counters.links,
-        data,
-    );
-    acted(what, todo);
+    tool_tells::moment(h.at);
+    happened(&t.night, h.what, t.data);
+    acted(h.what, t.action);
     tool_tells::codes::refused(t.refusal);
-    tool_tells::sent(sent, out);
-    waits::tell(before, state, store, at);
+    tool_tells::sent(t.sent, out);
+    waits::tell(t.before, t.night.state, store, h.at);
 }

@@ -18,64 +18,77 @@ fn placed(step: Step) -> Placed {
     }
 }
 
-fn connect() -> Placed {
-    placed(Step::Connect {
-        target: Target::Service(uuids::BAY),
-        interval: 24,
-        latency: 0,
-        timeout: 100,
-        within_ms: Millis(5_000),
-    })
+// No step of a script has a value.
+fn batch(script: &[Step]) -> Batch {
+    let mut steps = [placed(Step::Disconnect); 64];
+    for (place, step) in steps.iter_mut().zip(script) {
+        *place = placed(*step);
+    }
+    Batch {
+        steps,
+        count: script.len(),
+    }
 }
 
-fn wait(within_ms: Millis, age: Age) -> Placed {
-    placed(Step::WaitNotification {
+const CONNECT: Step = Step::Connect {
+    target: Target::Service(uuids::BAY),
+    interval: 24,
+    latency: 0,
+    timeout: 100,
+    within_ms: Millis(5_000),
+};
+
+fn wait(within_ms: Millis, age: Age) -> Step {
+    Step::WaitNotification {
         characteristic: uuids::OCCUPANCY,
         within_ms,
         age,
-    })
+    }
 }
 
 // Scan, connect, agree on an MTU, discover, subscribe, wait twice, read, stay for a while, disconnect.
 fn evening() -> Batch {
-    let mut steps = [placed(Step::Disconnect); 64];
-    steps[0] = placed(Step::Scan { ms: Millis(1_000) });
-    steps[1] = connect();
-    steps[2] = placed(Step::ExchangeMtu { mtu: 100 });
-    steps[3] = placed(Step::DiscoverServices);
-    steps[4] = placed(Step::DiscoverCharacteristics {
-        service: uuids::BAY,
-    });
-    steps[5] = placed(Step::Subscribe {
-        characteristic: uuids::OCCUPANCY,
-        indicate: false,
-    });
-    steps[6] = wait(Millis(5_000), Age::Any);
-    steps[7] = wait(Millis(500), Age::Any);
-    steps[8] = placed(Step::Read {
-        characteristic: uuids::STRING,
-    });
-    steps[9] = placed(Step::Wait { ms: Millis(500) });
-    Batch { steps, count: 11 }
+    batch(&[
+        Step::Scan { ms: Millis(1_000) },
+        CONNECT,
+        Step::ExchangeMtu { mtu: 100 },
+        Step::DiscoverServices,
+        Step::DiscoverCharacteristics {
+            service: uuids::BAY,
+        },
+        Step::Subscribe {
+            characteristic: uuids::OCCUPANCY,
+            indicate: false,
+        },
+        wait(Millis(5_000), Age::Any),
+        wait(Millis(500), Age::Any),
+        Step::Read {
+            characteristic: uuids::STRING,
+        },
+        Step::Wait { ms: Millis(500) },
+        Step::Disconnect,
+    ])
 }
 
 // Connect, wait twice, disconnect.
 fn morning(age: Age) -> Batch {
-    let mut steps = [placed(Step::Disconnect); 64];
-    steps[0] = connect();
-    steps[1] = wait(Millis(1_000), age);
-    steps[2] = wait(Millis(1_000), age);
-    Batch { steps, count: 4 }
+    batch(&[
+        CONNECT,
+        wait(Millis(1_000), age),
+        wait(Millis(1_000), age),
+        Step::Disconnect,
+    ])
 }
 
 // Connect, wait, stay for longer than the age, wait, disconnect.
 fn late() -> Batch {
-    let mut steps = [placed(Step::Disconnect); 64];
-    steps[0] = connect();
-    steps[1] = wait(Millis(1_000), Age::Within(AGE));
-    steps[2] = placed(Step::Wait { ms: Millis(3_000) });
-    steps[3] = wait(Millis(1_000), Age::Within(AGE));
-    Batch { steps, count: 5 }
+    batch(&[
+        CONNECT,
+        wait(Millis(1_000), Age::Within(AGE)),
+        Step::Wait { ms: Millis(3_000) },
+        wait(Millis(1_000), Age::Within(AGE)),
+        Step::Disconnect,
+    ])
 }
 
 pub fn of(part: Part) -> Batch {
@@ -89,12 +102,8 @@ pub fn of(part: Part) -> Batch {
 
 // Step i of a script.
 pub fn step(part: Part, i: usize) -> Step {
-    let b = of(part);
-    let all = b.steps;
-    if i < 64 {
-        let p = all[i];
-        let step = p.step;
-        return step;
+    match of(part).steps.get(i) {
+        Some(placed) => placed.step,
+        None => Step::Disconnect,
     }
-    Step::Disconnect
 }

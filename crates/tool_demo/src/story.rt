@@ -21,16 +21,19 @@ pub enum What {
     Timer,
     Connected,
     // A frame of the head.
-    Frame { why: u8 },
+    Frame { why: Why },
     Disconnected,
 }
 
-// Why the head sends a frame: it answers; a car comes; the car leaves.
-pub const ANSWERS: u8 = 0;
-
-pub const TAKEN: u8 = 1;
-
-const FREE: u8 = 2;
+// Why the head sends a frame.
+#[derive(Clone, Copy)]
+pub enum Why {
+    Answers,
+    // A car comes.
+    Taken,
+    // It leaves.
+    Free,
+}
 
 // Something that happens; whether it does of itself.
 #[derive(Clone, Copy)]
@@ -45,65 +48,61 @@ const EVENING: Micros = Micros(82_800_000_000);
 
 const MORNING: Micros = Micros(104_400_000_000);
 
-fn after(begin: Micros, us: u64, what: What) -> Happening {
-    Happening {
+// What happens of itself in each part, and how many microseconds after its beginning.
+static EVENS: [(u64, What); 10] = [
+    (0, What::Script),
+    (100_000, What::Advert { head: false }),
+    (200_000, What::Advert { head: true }),
+    (200_500, What::Response),
+    (1_100_000, What::Advert { head: false }),
+    (1_200_000, What::Advert { head: true }),
+    (1_201_000, What::Connected),
+    (2_000_000, What::Frame { why: Why::Taken }),
+    (2_700_000, What::Frame { why: Why::Free }),
+    (3_020_000, What::Disconnected),
+];
+
+static ANY_AGE: [(u64, What); 4] = [
+    (0, What::Script),
+    (100_000, What::Advert { head: true }),
+    (101_000, What::Connected),
+    (1_111_000, What::Disconnected),
+];
+
+static FRESH: [(u64, What); 5] = [
+    (0, What::Script),
+    (100_000, What::Advert { head: true }),
+    (101_000, What::Connected),
+    (601_000, What::Frame { why: Why::Taken }),
+    (1_611_000, What::Disconnected),
+];
+
+static LATE: [(u64, What); 5] = [
+    (0, What::Script),
+    (100_000, What::Advert { head: true }),
+    (101_000, What::Connected),
+    (1_601_000, What::Frame { why: Why::Taken }),
+    (5_111_000, What::Disconnected),
+];
+
+fn story_of(part: Part) -> (Micros, &'static [(u64, What)]) {
+    match part {
+        Part::Evening => (EVENING, &EVENS),
+        Part::AnyAge => (MORNING, &ANY_AGE),
+        Part::Fresh => (MORNING, &FRESH),
+        Part::Late => (MORNING, &LATE),
+    }
+}
+
+// What happens of itself after so many things, if the part is not over; the head's answers and the timer come between.
+pub fn of_itself(part: Part, i: usize) -> Option<Happening> {
+    let (begin, story) = story_of(part);
+    let (us, what) = *story.get(i)?;
+    Some(Happening {
         at: time::later(begin, Micros(us)),
         what,
         of_itself: true,
-    }
-}
-
-fn evening(i: usize) -> Happening {
-    match i {
-        0 => after(EVENING, 0, What::Script),
-        1 => after(EVENING, 100_000, What::Advert { head: false }),
-        2 => after(EVENING, 200_000, What::Advert { head: true }),
-        3 => after(EVENING, 200_500, What::Response),
-        4 => after(EVENING, 1_100_000, What::Advert { head: false }),
-        5 => after(EVENING, 1_200_000, What::Advert { head: true }),
-        6 => after(EVENING, 1_201_000, What::Connected),
-        7 => after(EVENING, 2_000_000, What::Frame { why: TAKEN }),
-        8 => after(EVENING, 2_700_000, What::Frame { why: FREE }),
-        _ => after(EVENING, 3_020_000, What::Disconnected),
-    }
-}
-
-// How each morning begins, or else how it ends.
-fn morning(i: usize, end: u64) -> Happening {
-    match i {
-        0 => after(MORNING, 0, What::Script),
-        1 => after(MORNING, 100_000, What::Advert { head: true }),
-        2 => after(MORNING, 101_000, What::Connected),
-        _ => after(MORNING, end, What::Disconnected),
-    }
-}
-
-// A morning on which a car comes.
-fn car(i: usize, comes: u64, end: u64) -> Happening {
-    match i {
-        3 => after(MORNING, comes, What::Frame { why: TAKEN }),
-        _ => morning(i, end),
-    }
-}
-
-// What happens of itself; the head's answers and the timer come between.
-pub fn of_itself(part: Part, i: usize) -> Happening {
-    match part {
-        Part::Evening => evening(i),
-        Part::AnyAge => morning(i, 1_111_000),
-        Part::Fresh => car(i, 601_000, 1_611_000),
-        Part::Late => car(i, 1_601_000, 5_111_000),
-    }
-}
-
-// So many things do.
-pub fn count(part: Part) -> usize {
-    match part {
-        Part::Evening => 10,
-        Part::AnyAge => 4,
-        Part::Fresh => 5,
-        Part::Late => 5,
-    }
+    })
 }
 
 fn put(to: &mut [u8], s: &[u8]) -> usize {
@@ -124,11 +123,12 @@ fn advert(head: bool, to: &mut [u8]) -> usize {
 }
 
 // A frame of the head, which has heard what was sent.
-fn frame(why: u8, sent: &[u8], to: &mut [u8]) -> usize {
-    if why == ANSWERS {
-        return tool_head::answer(sent, to);
+fn frame(why: Why, sent: &[u8], to: &mut [u8]) -> usize {
+    match why {
+        Why::Answers => tool_head::answer(sent, to),
+        Why::Taken => tool_head::notify(to, true),
+        Why::Free => tool_head::notify(to, false),
     }
-    tool_head::notify(to, why == TAKEN)
 }
 
 // The bytes that are heard at it, written to `to`.

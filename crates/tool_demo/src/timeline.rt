@@ -64,47 +64,25 @@ fn line(at: Micros, index: u32, step: Step, g: Result<Option<Given>, Refusal>) {
 
 // Step `index` of a script whose first step has the number `first`.
 fn step_of(part: Part, first: u32, index: u32) -> Step {
-    steps::step(part, std::num::wrapping_sub_u32(index, first) as usize)
+    steps::step(part, index.wrapping_sub(first) as usize)
 }
 
-// The steps that began, of a script whose end `done` knows.
-fn begun(part: Part, first: u32, at: Micros, done: State, store: &[u8], from: u32, to: u32) {
-    let mut index = from;
-    while index < to {
+// The steps that began in a turn, of a script whose end `done` knows.
+fn begun(t: &Turn, done: State, store: &[u8]) {
+    let night = &t.night;
+    for index in t.before.core.counters.next_index..night.state.core.counters.next_index {
         line(
-            at,
+            t.happening.at,
             index,
-            step_of(part, first, index),
+            step_of(night.part, night.first_step, index),
             central::result(done, store, index),
         );
-        index += 1;
     }
 }
 
-pub fn tell(
-    part: Part,
-    before: State,
-    t: Turn,
-    done: State,
-    store: &[u8],
-    out: &[u8],
-    data: &[u8],
-) {
+pub fn tell(t: &Turn, done: State, store: &[u8], out: &[u8]) {
     let h = t.happening;
-    let at = h.at;
-    let what = h.what;
-    let night = t.night;
-    let state = night.state;
-    let sent = t.sent;
-    happened(at, what, state.core.counters.links, data);
-    begun(
-        part,
-        night.first_step,
-        at,
-        done,
-        store,
-        before.core.counters.next_index,
-        state.core.counters.next_index,
-    );
-    tool_tells::sent_at(at, sent, out);
+    happened(h.at, h.what, t.night.state.core.counters.links, t.data);
+    begun(t, done, store);
+    tool_tells::sent_at(h.at, t.sent, out);
 }

@@ -9,31 +9,24 @@ use time::{Micros, Millis};
 
 // So many steps have ended.
 fn ended(s: State) -> u32 {
-    let core = s.core;
-    let running = core.running;
-    let counters = core.counters;
-    if running.active {
-        return running.index;
+    if s.core.running.active {
+        return s.core.running.index;
     }
-    counters.next_index
+    s.core.counters.next_index
 }
 
 // How many notifications no wait has used up.
 fn unused(s: State) -> u64 {
-    let core = s.core;
-    let counters = core.counters;
-    std::num::wrapping_sub_u64(counters.notified, counters.wait_from)
+    let counters = s.core.counters;
+    counters.notified.wrapping_sub(counters.wait_from)
 }
 
 // ---- a notification
 
 fn bay(value: &[u8]) {
-    if value.len() != 1 {
-        return;
-    }
-    match value[0] {
-        0 => tool_say::text(b" (free)"),
-        1 => tool_say::text(b" (taken)"),
+    match value {
+        [0] => tool_say::text(b" (free)"),
+        [1] => tool_say::text(b" (taken)"),
         _ => (),
     }
 }
@@ -94,23 +87,19 @@ fn result(s: State, store: &[u8], index: u32) {
 }
 
 fn results(s: State, store: &[u8], from: u32, to: u32) {
-    let mut index = from;
-    while index < to {
+    for index in from..to {
         result(s, store, index);
-        index += 1;
     }
 }
 
 // ---- what an old notification does
 
 fn links(s: State) -> u64 {
-    let core = s.core;
-    let counters = core.counters;
-    counters.links
+    s.core.counters.links
 }
 
 fn tell_age(at: Micros, now: Micros) {
-    tool_say::clock::span(std::num::wrapping_sub_u64(now.0, at.0));
+    tool_say::clock::span(now.0.wrapping_sub(at.0));
     tool_say::text(b" old");
 }
 
@@ -130,9 +119,7 @@ fn old(s: State, store: &[u8], now: Micros) {
 
 // A wait that passed in this call, on what was heard before it.
 fn tell_old(before: State, s: State, store: &[u8], now: Micros) {
-    let core = s.core;
-    let counters = core.counters;
-    if before.core.counters.wait_from < counters.wait_from {
+    if before.core.counters.wait_from < s.core.counters.wait_from {
         old(s, store, now);
     }
 }
@@ -169,13 +156,11 @@ fn tell_aged(s: State, store: &[u8], now: Micros, age: Age) {
 
 // An aged wait that began in this call and did not pass on what no wait has used up.
 fn tell_uncounted(before: State, s: State, store: &[u8], now: Micros) {
-    let core = s.core;
-    let running = core.running;
-    let step = running.step;
+    let running = s.core.running;
     if !running.active | (unused(s) == 0) | (running.index < before.core.counters.next_index) {
         return;
     }
-    match step {
+    match running.step {
         Step::WaitNotification {
             characteristic: _,
             within_ms: _,
