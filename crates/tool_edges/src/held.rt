@@ -3,7 +3,6 @@ use crate::known;
 use central::State;
 use central_answers::Answer;
 use state::Sent;
-use state_refusals::Refusal;
 use time::Micros;
 
 const LONGEST: usize = 251;
@@ -13,15 +12,41 @@ const TOO_LONG: usize = 252;
 // Bytes of a notification's frame before its value.
 const HEAD: usize = 7;
 
-// Frames of 252 bytes, then of 251.
-fn length(i: u32) -> usize {
-    if i < 3 { TOO_LONG } else { LONGEST }
+// A fragment of a frame of so many bytes: one that leaves out the last byte and starts the frame, or the last byte.
+struct Part {
+    text: &'static [u8],
+    length: usize,
+    start: bool,
 }
 
-// Of each a fragment that leaves out the last byte, then the last byte; of the first the last byte once more.
-fn is_start(i: u32) -> bool {
-    (i == 0) | (i == 3)
-}
+// Of a frame of 252 bytes and of one of 251; of the first the last byte once more.
+static PARTS: [Part; 5] = [
+    Part {
+        text: b"Of a frame of 252 bytes the first 251",
+        length: TOO_LONG,
+        start: true,
+    },
+    Part {
+        text: b"  the last one",
+        length: TOO_LONG,
+        start: false,
+    },
+    Part {
+        text: b"  the last one again, with nothing held",
+        length: TOO_LONG,
+        start: false,
+    },
+    Part {
+        text: b"Of a frame of 251 bytes the first 250",
+        length: LONGEST,
+        start: true,
+    },
+    Part {
+        text: b"  the last one",
+        length: LONGEST,
+        start: false,
+    },
+];
 
 // A notification on the known handle that fills so much of the bytes.
 fn fill(frame: &mut [u8], n: usize) {
@@ -39,26 +64,11 @@ fn fill(frame: &mut [u8], n: usize) {
     }
 }
 
-fn fragment(frame: &[u8], n: usize, start: bool) -> &[u8] {
-    if frame.len() < n {
-        return &frame[0..0];
-    }
-    if n == 0 {
-        return &frame[0..0];
-    }
-    let last = n - 1;
-    if start {
-        return &frame[0..last];
-    }
-    &frame[last..n]
-}
-
-fn text(i: u32) {
-    match i {
-        0 => tool_say::text(b"Of a frame of 252 bytes the first 251"),
-        2 => tool_say::text(b"  the last one again, with nothing held"),
-        3 => tool_say::text(b"Of a frame of 251 bytes the first 250"),
-        _ => tool_say::text(b"  the last one"),
+fn fragment(frame: &[u8], start: bool) -> &[u8] {
+    match frame {
+        [rest @ .., _] if start => rest,
+        [.., _] => &frame[frame.len() - 1..],
+        [] => frame,
     }
 }
 
@@ -69,23 +79,13 @@ fn rest(s: State) -> u64 {
     known::number(o)
 }
 
-fn tell(i: u32, why: Option<Refusal>, held: usize, notified: u64, state: bool) {
-    text(i);
-    known::refusal(why);
-    tool_say::told(b", held ", held as u64, b"");
-    tool_say::told(b", notified ", notified, b"");
-    known::same(b"; the rest of the state", state);
-}
-
-fn answered(a: Answer<State, Sent>, i: u32, before: u64) -> State {
+fn answered(a: Answer<State, Sent>, text: &[u8], before: u64) -> State {
     let left = a.state;
-    tell(
-        i,
-        a.refusal,
-        left.core.bearer.held,
-        left.core.counters.notified,
-        rest(left) == before,
-    );
+    tool_say::text(text);
+    known::refusal(a.refusal);
+    tool_say::told(b", held ", left.core.bearer.held as u64, b"");
+    tool_say::told(b", notified ", left.core.counters.notified, b"");
+    known::same(b"; the rest of the state", rest(left) == before);
     left
 }
 
@@ -95,19 +95,19 @@ fn kept(store: bool, out: bool) {
     tool_say::line(b"");
 }
 
-fn hear(s: State, store: &mut [u8], out: &mut [u8], i: u32) -> Answer<State, Sent> {
+fn hear(s: State, store: &mut [u8], out: &mut [u8], part: &Part) -> Answer<State, Sent> {
     let mut frame = [0u8; TOO_LONG];
-    fill(&mut frame, length(i));
-    let start = is_start(i);
-    let part = fragment(&frame, length(i), start);
-    central::on_fragment(s, store, out, Micros(1000), start, part)
+    fill(&mut frame, part.length);
+    let whole = frame.get(..part.length).unwrap_or(&[]);
+    let bytes = fragment(whole, part.start);
+    central::on_fragment(s, store, out, Micros(1000), part.start, bytes)
 }
 
 // A fragment comes in, and what that did.
-fn give(s: State, store: &mut [u8], out: &mut [u8], i: u32) -> State {
+fn give(s: State, store: &mut [u8], out: &mut [u8], part: &Part) -> State {
     let stored = tool_digest::of_lent(store);
     let written = tool_digest::of_lent(out);
-    let left = answered(hear(s, store, out, i), i, rest(s));
+    let left = answered(hear(s, store, out, part), part.text, rest(s));
     kept(
         tool_digest::of_lent(store) == stored,
         tool_digest::of_lent(out) == written,
@@ -115,18 +115,11 @@ fn give(s: State, store: &mut [u8], out: &mut [u8], i: u32) -> State {
     left
 }
 
-fn give_all(s: State, store: &mut [u8], out: &mut [u8]) {
-    let mut x = s;
-    let mut i = 0;
-    while i < 5 {
-        x = give(x, store, out, i);
-        i += 1;
-    }
-}
-
 pub fn all() {
     let mut store = [0u8; state_places::STORE_SIZE];
     let mut out = [0u8; state_places::OUTPUT_SIZE];
-    let s = known::linked(&mut store, &mut out);
-    give_all(s, &mut store, &mut out);
+    let mut s = known::linked(&mut store, &mut out);
+    for part in &PARTS {
+        s = give(s, &mut store, &mut out, part);
+    }
 }

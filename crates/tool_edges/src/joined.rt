@@ -37,10 +37,10 @@ fn begun(bytes: &[u8], why: Option<Refusal>) {
 fn begin(store: &mut [u8], out: &mut [u8]) -> State {
     let bytes = AWAITED;
     let s = known::linked(store, out);
-    let a = known::push(s, store, out, Micros(1000), WAIT, 1, 0, 2, &bytes);
+    let steps = known::alike(WAIT, 1, 0, bytes.len());
+    let a = central::push_steps(s, store, out, Micros(1000), steps, &bytes);
     begun(&bytes, a.refusal);
-    let left = a.state;
-    left
+    a.state
 }
 
 // Whether the wait is over.

@@ -1,10 +1,9 @@
 // What the programs begin with: a head's characteristic that is known, a link, a batch; and what they say of every call.
 use central::State;
-use central_answers::Answer;
 use script_rules::{Batch, Placed};
-use state::{Sent, Step};
+use state::{Address, Step};
 use state_refusals::Refusal;
-use time::Micros;
+use time::{Micros, Millis};
 use uuid_value::Uuid;
 
 // 2A19, the battery level.
@@ -33,39 +32,37 @@ fn knowing() -> State {
 
 // The same with a link just come up, so that its MTU is 23.
 pub fn linked(store: &mut [u8], out: &mut [u8]) -> State {
-    let a = central::on_connected(knowing(), store, out, LINK, Micros(0));
-    let state = a.state;
-    state
+    central::on_connected(knowing(), store, out, LINK, Micros(0)).state
 }
 
 // A batch of one step over and over, with one value.
-fn alike(step: Step, count: usize, place: usize, len: usize) -> Batch {
+pub fn alike(step: Step, count: usize, place: usize, len: usize) -> Batch {
     Batch {
         steps: [Placed { step, place, len }; 64],
         count,
     }
 }
 
-// It is handed in.
-pub fn push(
-    s: State,
-    store: &mut [u8],
-    out: &mut [u8],
-    at: Micros,
-    step: Step,
-    count: usize,
-    place: usize,
-    len: usize,
-    values: &[u8],
-) -> Answer<State, Sent> {
-    let b = alike(step, count, place, len);
-    central::push_steps(s, store, out, at, b, values)
+// A fresh state whose Scan runs.
+pub fn scanning(store: &mut [u8]) -> State {
+    let mut out = [0u8; state_places::OUTPUT_SIZE];
+    let scan = alike(Step::Scan { ms: Millis(60_000) }, 1, 0, 0);
+    let fresh = central::fresh::fresh();
+    central::push_steps(fresh, store, &mut out, Micros(0), scan, b"").state
+}
+
+// An advertiser.
+pub fn address(low: u32) -> Address {
+    Address {
+        low,
+        high: 0x00AA,
+        random: false,
+    }
 }
 
 // One number of a whole state.
 pub fn number(s: State) -> u64 {
-    let tables = s.tables;
-    tool_digest::of_state(s.core, &tables)
+    tool_digest::of_state(s.core, &s.tables)
 }
 
 pub fn refusal(why: Option<Refusal>) {

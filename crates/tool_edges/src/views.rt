@@ -1,8 +1,7 @@
 // The views of kept reports: numbers, and the bytes as parts of the lent store.
 use crate::known;
 use central::State;
-use state::{Address, Step};
-use time::{Micros, Millis};
+use time::Micros;
 use uuid_value::Uuid;
 
 const ADV_IND: u8 = 0;
@@ -13,50 +12,20 @@ const DATA: [u8; 7] = [0x02, 0x01, 0x06, 0x03, 0x03, 0x0F, 0x18];
 // A list of 180A and 180F.
 const RESPONSE: [u8; 6] = [0x05, 0x03, 0x0A, 0x18, 0x0F, 0x18];
 
-const SCAN: Step = Step::Scan { ms: Millis(60_000) };
-
-fn address(low: u32) -> Address {
-    Address {
-        low,
-        high: 0x00AA,
-        random: false,
-    }
-}
-
-fn scanning(store: &mut [u8]) -> State {
-    let mut out = [0u8; state_places::OUTPUT_SIZE];
-    let a = known::push(
-        central::fresh::fresh(),
-        store,
-        &mut out,
-        Micros(0),
-        SCAN,
-        1,
-        0,
-        0,
-        b"",
-    );
-    let state = a.state;
-    state
-}
-
 // This advertiser speaks.
 fn hear(s: State, store: &mut [u8], low: u32, at: Micros, data: &[u8]) -> State {
-    let a = central::on_advertising(s, store, at, 37, ADV_IND, address(low), data, false);
-    let state = a.state;
-    state
+    let address = known::address(low);
+    central::on_advertising(s, store, at, 37, ADV_IND, address, data, false).state
 }
 
 // It answers a scan request.
 fn answer(s: State, store: &mut [u8], low: u32, at: Micros, data: &[u8]) -> State {
-    let a = central::on_scan_response(s, store, at, address(low), data);
-    let state = a.state;
-    state
+    central::on_scan_response(s, store, at, known::address(low), data).state
 }
 
 // Report 0: an advertiser with no data.
 fn silent(store: &mut [u8]) -> State {
-    let s = scanning(store);
+    let s = known::scanning(store);
     hear(s, store, 1, Micros(1000), b"")
 }
 
@@ -88,39 +57,37 @@ fn tell_numbers(s: State, store: &[u8], i: usize) {
 
 // Which list names the service.
 fn tell_body(s: State, store: &[u8], i: usize, service: u16) {
-    let tables = s.tables;
     tool_say::text(b"    ");
     tool_say::hex(service as u64, 4);
     tell_bytes(
         b" is named in ",
-        radio_views::report_body(s.core, &tables, store, i, Uuid::from(service)),
+        radio_views::report_body(s.core, &s.tables, store, i, Uuid::from(service)),
     );
 }
 
 fn tell(s: State, store: &[u8], i: usize) {
-    let tables = s.tables;
     tool_say::told(b"  report ", i as u64, b"");
     tell_numbers(s, store, i);
     tell_bytes(
         b"    data of ",
-        radio_views::report_data(s.core, &tables, store, i),
+        radio_views::report_data(s.core, &s.tables, store, i),
     );
     tell_bytes(
         b"    scan response of ",
-        radio_views::report_response(s.core, &tables, store, i),
+        radio_views::report_response(s.core, &s.tables, store, i),
     );
-    tell_body(s, store, i, 0x180F);
-    tell_body(s, store, i, 0x180A);
-    tell_body(s, store, i, 0x1801);
+    for service in [0x180F, 0x180A, 0x1801] {
+        tell_body(s, store, i, service);
+    }
 }
 
 pub fn all() {
     let mut store = [0u8; state_places::STORE_SIZE];
     tool_say::line(b"Two advertisers are heard, and the second answers");
     let s = listing(silent(&mut store), &mut store);
-    tell(s, &store, 0);
-    tell(s, &store, 1);
-    tell(s, &store, 2);
+    for i in 0..3 {
+        tell(s, &store, i);
+    }
     tool_say::line(b"The same with a store that is a byte short");
     tell(s, &store[0..43_630], 1);
 }

@@ -3,8 +3,6 @@ use crate::known;
 use central::State;
 use central_answers::Answer;
 use state::{Sent, Step};
-use state_readers::Given;
-use state_refusals::Refusal;
 use time::Micros;
 
 const VALUE: [u8; 21] = [
@@ -17,52 +15,26 @@ fn told(kind: &[u8], len: usize, mtu: u16) {
     tool_say::number(mtu as u64);
 }
 
-fn mtu_of(s: State) -> u16 {
-    s.core.bearer.link.mtu
-}
-
 // What the call told, and how step 0 ended, if it did.
-fn ended(
-    why: Option<Refusal>,
-    sent: Sent,
-    out: &[u8],
-    g: Result<Option<Given>, Refusal>,
-    store: &[u8],
-) {
-    known::refusal(why);
-    tool_say::told(b", frames ", sent.frames as u64, b"\n");
-    tool_tells::sent(sent, out);
-    tool_tells::result(0, g, store);
-}
-
 fn answered(a: Answer<State, Sent>, store: &[u8], out: &[u8]) {
-    let left = a.state;
-    let sent = a.gives;
-    ended(a.refusal, sent, out, central::result(left, store, 0), store);
+    known::refusal(a.refusal);
+    tool_say::told(b", frames ", a.gives.frames as u64, b"\n");
+    tool_tells::sent(a.gives, out);
+    tool_tells::result(0, central::result(a.state, store, 0), store);
 }
 
 // A Write on a link just come up, so that its MTU is 23.
 fn write(kind: &[u8], with_response: bool, len: usize) {
     let mut store = [0u8; state_places::STORE_SIZE];
     let mut out = [0u8; state_places::OUTPUT_SIZE];
-    let value = VALUE;
     let step = Step::Write {
         characteristic: known::LEVEL,
         with_response,
     };
     let s = known::linked(&mut store, &mut out);
-    told(kind, len, mtu_of(s));
-    let a = known::push(
-        s,
-        &mut store,
-        &mut out,
-        Micros(1000),
-        step,
-        1,
-        0,
-        len,
-        &value,
-    );
+    told(kind, len, s.core.bearer.link.mtu);
+    let steps = known::alike(step, 1, 0, len);
+    let a = central::push_steps(s, &mut store, &mut out, Micros(1000), steps, &VALUE);
     answered(a, &store, &out);
 }
 
