@@ -28,6 +28,7 @@ const REPORT: u64 = 0x001F_0025;
 
 const RESPONSE: u64 = 0x0100_0000;
 
+// Kept: a bit that stands for none, since a report's words have it there (crate words_report).
 const NO_RESPONSE: u64 = 0x1_0000_0000;
 
 fn running(r: Row) -> Running {

@@ -28,51 +28,64 @@ const MOST_TURNS: usize = 64;
 
 type Store = [u8; state_places::STORE_SIZE];
 
-// What is lent to the library, and how what happens is told, if it is.
+// `done` is the state at the end of the part.
+fn tell(form: Option<Form>, t: &Turn, done: State, store: &[u8], out: &[u8]) {
+    match form {
+        None => (),
+        Some(Form::Words) => prose::tell(t, store, out),
+        Some(Form::Timeline) => timeline::tell(t, done, store, out),
+    }
+}
+
+fn turn(
+    form: Option<Form>,
+    n: Night,
+    h: Happening,
+    done: State,
+    store: &mut [u8],
+    out: &mut [u8],
+) -> Night {
+    let mut to = [0u8; state_places::MAX_FRAME];
+    let heard = story::bytes(h.what, play::first(out, n.sent), &mut to);
+    let t = play::next(n, h, play::first(&to, heard), store, out);
+    tell(form, &t, done, store, out);
+    t.night
+}
+
+// What is lent to the library, and how what happens is told.
 #[derive(Drop)]
 struct Teller<'a> {
-    form: Option<Form>,
+    form: Form,
     store: &'a mut Store,
     out: &'a mut [u8],
 }
 
 impl Teller<'_> {
-    // `done` is the state at the end of the part.
-    fn tell(&self, t: &Turn, done: State) {
-        match self.form {
-            None => (),
-            Some(Form::Words) => prose::tell(t, self.store, self.out),
-            Some(Form::Timeline) => timeline::tell(t, done, self.store, self.out),
-        }
-    }
-
-    fn turn(&mut self, n: Night, h: Happening, done: State) -> Night {
-        let mut to = [0u8; state_places::MAX_FRAME];
-        let heard = story::bytes(h.what, play::first(self.out, n.sent), &mut to);
-        let t = play::next(n, h, play::first(&to, heard), self.store, self.out);
-        self.tell(&t, done);
-        t.night
-    }
-
-    // A part from a state and its store on; the state as it is then.
-    fn run(&mut self, part: Part, from: State, store: &Store, done: State) -> State {
-        *self.store = *store;
+    // A part from a state and its store on, told if a form is given; the state as it is then.
+    fn run(
+        &mut self,
+        form: Option<Form>,
+        part: Part,
+        from: State,
+        store: &Store,
+        done: State,
+    ) -> State {
+        self.store.copy_from_slice(store);
         let mut n = play::begins(part, from);
         for _ in 0..MOST_TURNS {
             let Some(h) = play::happening(&n, self.store) else {
                 break;
             };
-            n = self.turn(n, h, done);
+            n = turn(form, n, h, done, self.store, self.out);
         }
         n.state
     }
 
     // The same. It is played in silence first, since a step's line in a timeline says how the step ends.
     fn play(&mut self, part: Part, from: State, store: &Store) -> State {
-        let form = self.form.take();
-        let done = self.run(part, from, store, from);
-        self.form = form;
-        self.run(part, from, store, done)
+        let done = self.run(None, part, from, store, from);
+        let form = self.form;
+        self.run(Some(form), part, from, store, done)
     }
 }
 
@@ -103,8 +116,9 @@ fn rule() {
 fn mornings(teller: &mut Teller, evening: State, store: &Store) {
     heading(b"05:00, with waits that have no age");
     teller.play(Part::AnyAge, evening, store);
-    if let Some(Form::Words) = teller.form {
-        rule();
+    match teller.form {
+        Form::Words => rule(),
+        Form::Timeline => (),
     }
     heading(b"05:00 again, with aged waits: a car comes while step 12 waits");
     teller.play(Part::Fresh, evening, store);
@@ -116,7 +130,7 @@ fn mornings(teller: &mut Teller, evening: State, store: &Store) {
 
 fn tell_night(form: Form) {
     let mut teller = Teller {
-        form: Some(form),
+        form,
         store: &mut [0u8; state_places::STORE_SIZE],
         out: &mut [0u8; state_places::OUTPUT_SIZE],
     };
@@ -127,7 +141,8 @@ fn tell_night(form: Form) {
     heading(b"23:00");
     let empty = [0u8; state_places::STORE_SIZE];
     let evening = teller.play(Part::Evening, central::fresh::fresh(), &empty);
-    let store = *teller.store;
+    let mut store = empty;
+    store.copy_from_slice(teller.store);
     mornings(&mut teller, evening, &store);
 }
 

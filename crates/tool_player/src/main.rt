@@ -4,7 +4,7 @@
 
 mod play;
 
-use play::Player;
+use central::State;
 use tool_lines::line;
 use tool_traces::record;
 
@@ -12,34 +12,40 @@ use tool_traces::record;
 const ROOM: usize = 65_536;
 
 // The next record is read, played and answered; whether there was one, and its line could be written.
-fn turn(player: &mut Player, body: &mut [u8]) -> bool {
+fn turn(
+    state: &mut State,
+    body: &mut [u8],
+    store: &mut [u8],
+    out: &mut [u8],
+    to: &mut [u8],
+) -> bool {
     match record::read_next(body) {
-        Ok(Some(next)) => player.play(next.tag, body.get(..next.len).unwrap_or(body)),
+        Ok(Some(next)) => {
+            let body = body.get(..next.len).unwrap_or(&[]);
+            play::play(next.tag, body, state, store, out, to)
+        }
         Ok(None) => false,
         Err(why) => {
-            line::write(player.to, b"bad", |line| line.word(why.word().as_bytes()));
+            line::write(to, b"bad", |line| line.word(why.word().as_bytes()));
             false
         }
     }
 }
 
 // A proved loop has to end, and nothing says that the input does: the turns are counted up to a number that no run reaches.
-fn run(player: &mut Player, body: &mut [u8]) {
+fn run(state: &mut State, body: &mut [u8], store: &mut [u8], out: &mut [u8], to: &mut [u8]) {
     for _ in 0..u64::MAX {
-        if !turn(player, body) {
+        if !turn(state, body, store, out, to) {
             break;
         }
     }
 }
 
 fn main() {
+    let mut state = central::fresh::fresh_with(play::OLD_MODE);
     let mut body = [0u8; record::MOST_BODY];
-    let mut player = Player {
-        core: central::fresh::fresh_with(play::OLD_MODE).core,
-        tables: &mut [0u64; 1152],
-        store: &mut [0u8; state_places::STORE_SIZE],
-        out: &mut [0u8; state_places::OUTPUT_SIZE],
-        to: &mut [0u8; ROOM],
-    };
-    run(&mut player, &mut body);
+    let mut store = [0u8; state_places::STORE_SIZE];
+    let mut out = [0u8; state_places::OUTPUT_SIZE];
+    let mut to = [0u8; ROOM];
+    run(&mut state, &mut body, &mut store, &mut out, &mut to);
 }

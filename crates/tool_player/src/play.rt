@@ -1,4 +1,5 @@
 // One record: its call is made on the port and answered.
+use central::State;
 use central_answers::Answer;
 use state::{Options, Sent};
 use state_core::Core;
@@ -28,16 +29,6 @@ const RESPONSE_DATA_AT: usize = 15;
 
 const FRAGMENT_AT: usize = 9;
 
-// The state and what is lent beside it, and the room of a line.
-#[derive(Drop)]
-pub struct Player<'a> {
-    pub core: Core,
-    pub tables: &'a mut [u64; 1152],
-    pub store: &'a mut [u8],
-    pub out: &'a mut [u8],
-    pub to: &'a mut [u8],
-}
-
 // The bytes from n on.
 fn after(s: &[u8], n: usize) -> &[u8] {
     s.get(n..).unwrap_or(&[])
@@ -60,206 +51,208 @@ fn options_in(body: &[u8]) -> Options {
 }
 
 // Each function makes a call and writes its line; whether it could be written.
-impl Player<'_> {
-    // ---- the calls that only read
+// Kept: state, store, out and to as parameters, since no proof is made yet where two loans of fields behind one &mut self are held.
 
-    fn timer_us(&mut self) -> bool {
-        let timer = state_readers::timer_us(self.core, self.tables, self.store);
-        line::write(self.to, b"timer_us", |line| tool_rows::timer(line, timer))
+// ---- the calls that only read
+
+fn timer_us(state: &State, store: &[u8], to: &mut [u8]) -> bool {
+    let timer = state_readers::timer_us(state.core, &state.tables, store);
+    line::write(to, b"timer_us", |line| tool_rows::timer(line, timer))
+}
+
+fn connected_handle(state: &State, store: &[u8], to: &mut [u8]) -> bool {
+    let handle = state_readers::connected_handle(state.core, &state.tables, store);
+    line::write(
+        to,
+        b"connected_handle",
+        |line| tool_rows::handle(line, handle),
+    )
+}
+
+fn result(state: &State, store: &[u8], to: &mut [u8], body: &[u8]) -> bool {
+    let index = bytes_numbers::le32(body, 0);
+    let given = state_readers::result(state.core, &state.tables, store, index);
+    line::write(
+        to,
+        b"result",
+        |line| tool_rows::given(line, index, given, store),
+    )
+}
+
+fn passed_on(state: &State, store: &[u8], to: &mut [u8], body: &[u8]) -> bool {
+    let index = bytes_numbers::le32(body, 0);
+    let passed = state_readers::passed_on(state.core, &state.tables, store, index);
+    line::write(
+        to,
+        b"passed_on",
+        |line| tool_rows::passed(line, passed, store),
+    )
+}
+
+fn dump(state: &State, store: &[u8], to: &mut [u8]) -> bool {
+    line::write(
+        to,
+        b"dump",
+        |line| tool_dumps::tell_state(line, state.core, &state.tables, store),
+    )
+}
+
+fn links(state: &State, to: &mut [u8]) -> bool {
+    line::write(
+        to,
+        b"links",
+        |line| tool_dumps::tell_links(line, state.core, &state.tables),
+    )
+}
+
+fn mode(core: Core, to: &mut [u8]) -> bool {
+    line::write(
+        to,
+        b"mode",
+        |line| tool_rows::mode(line, core.options, core.bearer),
+    )
+}
+
+// ---- the calls that change the state
+
+// The store and the output keep their bytes at a fresh state: no answer may depend on them.
+fn begin(state: &mut State, to: &mut [u8], name: &[u8], options: Options) -> bool {
+    let fresh = central::fresh::fresh_with(options);
+    *state = fresh;
+    line::write(to, name, |_line| ())
+}
+
+// The line of a refusal, or of none.
+fn refusal(to: &mut [u8], name: &[u8], refusal: Option<Refusal>) -> bool {
+    line::write(to, name, |line| tool_rows::refusal(line, refusal))
+}
+
+// What a call that may send has left and given.
+fn sending(
+    state: &mut State,
+    out: &[u8],
+    to: &mut [u8],
+    name: &[u8],
+    a: Answer<Core, Sent>,
+) -> bool {
+    state.core = a.state;
+    if a.refusal.is_some() {
+        return refusal(to, name, a.refusal);
     }
+    line::write(to, name, |line| tool_rows::sent(line, a.gives, out))
+}
 
-    fn connected_handle(&mut self) -> bool {
-        let handle = state_readers::connected_handle(self.core, self.tables, self.store);
-        line::write(
-            self.to,
-            b"connected_handle",
-            |line| tool_rows::handle(line, handle),
-        )
-    }
+// What a call that sends nothing has.
+fn quiet(state: &mut State, to: &mut [u8], name: &[u8], a: Answer<Core, ()>) -> bool {
+    state.core = a.state;
+    refusal(to, name, a.refusal)
+}
 
-    fn result(&mut self, body: &[u8]) -> bool {
-        let index = bytes_numbers::le32(body, 0);
-        let given = state_readers::result(self.core, self.tables, self.store, index);
-        let store = &*self.store;
-        line::write(
-            self.to,
-            b"result",
-            |line| tool_rows::given(line, index, given, store),
-        )
-    }
+fn push(state: &mut State, store: &mut [u8], out: &mut [u8], to: &mut [u8], body: &[u8]) -> bool {
+    let values = after(body, steps::values_at(body));
+    let steps = steps::batch_of(body);
+    let at = at_of(body);
+    let a = script_batch::push_steps(state.core, &mut state.tables, store, out, at, steps, values);
+    sending(state, out, to, b"batch", a)
+}
 
-    fn passed_on(&mut self, body: &[u8]) -> bool {
-        let index = bytes_numbers::le32(body, 0);
-        let passed = state_readers::passed_on(self.core, self.tables, self.store, index);
-        let store = &*self.store;
-        line::write(
-            self.to,
-            b"passed_on",
-            |line| tool_rows::passed(line, passed, store),
-        )
-    }
+fn ring(state: &mut State, store: &mut [u8], out: &mut [u8], to: &mut [u8], body: &[u8]) -> bool {
+    let at = at_of(body);
+    let a = script_events::on_timer(state.core, &mut state.tables, store, out, at);
+    sending(state, out, to, b"timer", a)
+}
 
-    fn dump(&mut self) -> bool {
-        let core = self.core;
-        let tables = &*self.tables;
-        let store = &*self.store;
-        line::write(
-            self.to,
-            b"dump",
-            |line| tool_dumps::tell_state(line, core, tables, store),
-        )
-    }
+fn connect(
+    state: &mut State,
+    store: &mut [u8],
+    out: &mut [u8],
+    to: &mut [u8],
+    body: &[u8],
+) -> bool {
+    let handle = bytes_numbers::le16(body, HANDLE_AT);
+    let at = at_of(body);
+    let a = script_events::on_connected(state.core, &mut state.tables, store, out, handle, at);
+    sending(state, out, to, b"connected", a)
+}
 
-    fn links(&mut self) -> bool {
-        let core = self.core;
-        let tables = &*self.tables;
-        line::write(
-            self.to,
-            b"links",
-            |line| tool_dumps::tell_links(line, core, tables),
-        )
-    }
+fn disconnect(state: &mut State, store: &mut [u8], to: &mut [u8], body: &[u8]) -> bool {
+    let at = at_of(body);
+    let a = script_events::on_disconnected(state.core, &mut state.tables, store, at);
+    quiet(state, to, b"disconnected", a)
+}
 
-    fn mode(&mut self) -> bool {
-        let core = self.core;
-        line::write(
-            self.to,
-            b"mode",
-            |line| tool_rows::mode(line, core.options, core.bearer),
-        )
-    }
+fn gather(state: &mut State, store: &mut [u8], out: &mut [u8], to: &mut [u8], body: &[u8]) -> bool {
+    let start = is_set(body, record::START_AT);
+    let fragment = after(body, FRAGMENT_AT);
+    let at = at_of(body);
+    let a = link_call::on_fragment(
+        state.core,
+        &mut state.tables,
+        store,
+        out,
+        at,
+        start,
+        fragment,
+    );
+    sending(state, out, to, b"fragment", a)
+}
 
-    // ---- the calls that change the state
+fn hear(state: &mut State, store: &mut [u8], to: &mut [u8], body: &[u8]) -> bool {
+    let random = is_set(body, record::RANDOM_AT);
+    let address = steps::address(body, ADDRESS_AT, random);
+    let a = radio_calls::on_advertising(
+        state.core,
+        &mut state.tables,
+        store,
+        at_of(body),
+        record::byte(body, CHANNEL_AT),
+        record::byte(body, PDU_AT),
+        address,
+        after(body, DATA_AT),
+        is_set(body, record::TO_CENTRAL_AT),
+    );
+    state.core = a.state;
+    line::write(
+        to,
+        b"advertising",
+        |line| tool_rows::advertised(line, a.refusal, a.gives),
+    )
+}
 
-    // The store and the output keep their bytes at a fresh state: no answer may depend on them.
-    fn begin(&mut self, name: &[u8], options: Options) -> bool {
-        let fresh = central::fresh::fresh_with(options);
-        self.core = fresh.core;
-        *self.tables = fresh.tables;
-        line::write(self.to, name, |_line| ())
-    }
+fn respond(state: &mut State, store: &mut [u8], to: &mut [u8], body: &[u8]) -> bool {
+    let random = is_set(body, record::RESPONSE_RANDOM_AT);
+    let address = steps::address(body, RESPONSE_ADDRESS_AT, random);
+    let heard = after(body, RESPONSE_DATA_AT);
+    let at = at_of(body);
+    let a = radio_calls::on_scan_response(state.core, &mut state.tables, store, at, address, heard);
+    quiet(state, to, b"scan_response", a)
+}
 
-    // The line of a refusal, or of none.
-    fn refusal(&mut self, name: &[u8], refusal: Option<Refusal>) -> bool {
-        line::write(self.to, name, |line| tool_rows::refusal(line, refusal))
-    }
-
-    // What a call that may send has left and given.
-    fn sending(&mut self, name: &[u8], a: Answer<Core, Sent>) -> bool {
-        self.core = a.state;
-        if a.refusal.is_some() {
-            return self.refusal(name, a.refusal);
-        }
-        let out = &*self.out;
-        line::write(self.to, name, |line| tool_rows::sent(line, a.gives, out))
-    }
-
-    // What a call that sends nothing has.
-    fn quiet(&mut self, name: &[u8], a: Answer<Core, ()>) -> bool {
-        self.core = a.state;
-        self.refusal(name, a.refusal)
-    }
-
-    fn push(&mut self, body: &[u8]) -> bool {
-        let a = script_batch::push_steps(
-            self.core,
-            self.tables,
-            self.store,
-            self.out,
-            at_of(body),
-            steps::batch_of(body),
-            after(body, steps::values_at(body)),
-        );
-        self.sending(b"batch", a)
-    }
-
-    fn ring(&mut self, body: &[u8]) -> bool {
-        let at = at_of(body);
-        let a = script_events::on_timer(self.core, self.tables, self.store, self.out, at);
-        self.sending(b"timer", a)
-    }
-
-    fn connect(&mut self, body: &[u8]) -> bool {
-        let a = script_events::on_connected(
-            self.core,
-            self.tables,
-            self.store,
-            self.out,
-            bytes_numbers::le16(body, HANDLE_AT),
-            at_of(body),
-        );
-        self.sending(b"connected", a)
-    }
-
-    fn disconnect(&mut self, body: &[u8]) -> bool {
-        let a = script_events::on_disconnected(self.core, self.tables, self.store, at_of(body));
-        self.quiet(b"disconnected", a)
-    }
-
-    fn gather(&mut self, body: &[u8]) -> bool {
-        let a = link_call::on_fragment(
-            self.core,
-            self.tables,
-            self.store,
-            self.out,
-            at_of(body),
-            is_set(body, record::START_AT),
-            after(body, FRAGMENT_AT),
-        );
-        self.sending(b"fragment", a)
-    }
-
-    fn hear(&mut self, body: &[u8]) -> bool {
-        let random = is_set(body, record::RANDOM_AT);
-        let a = radio_calls::on_advertising(
-            self.core,
-            self.tables,
-            self.store,
-            at_of(body),
-            record::byte(body, CHANNEL_AT),
-            record::byte(body, PDU_AT),
-            steps::address(body, ADDRESS_AT, random),
-            after(body, DATA_AT),
-            is_set(body, record::TO_CENTRAL_AT),
-        );
-        self.core = a.state;
-        line::write(self.to, b"advertising", |line| {
-            tool_rows::advertised(line, a.refusal, a.gives);
-        })
-    }
-
-    fn respond(&mut self, body: &[u8]) -> bool {
-        let random = is_set(body, record::RESPONSE_RANDOM_AT);
-        let a = radio_calls::on_scan_response(
-            self.core,
-            self.tables,
-            self.store,
-            at_of(body),
-            steps::address(body, RESPONSE_ADDRESS_AT, random),
-            after(body, RESPONSE_DATA_AT),
-        );
-        self.quiet(b"scan_response", a)
-    }
-
-    // A record with this tag and body.
-    pub fn play(&mut self, tag: Tag, body: &[u8]) -> bool {
-        match tag {
-            Tag::Fresh => self.begin(b"fresh", OLD_MODE),
-            Tag::FreshWith => self.begin(b"fresh_with", options_in(body)),
-            Tag::Batch => self.push(body),
-            Tag::Timer => self.ring(body),
-            Tag::Connected => self.connect(body),
-            Tag::Disconnected => self.disconnect(body),
-            Tag::Advertising => self.hear(body),
-            Tag::ScanResponse => self.respond(body),
-            Tag::Fragment => self.gather(body),
-            Tag::TimerUs => self.timer_us(),
-            Tag::ConnectedHandle => self.connected_handle(),
-            Tag::Result => self.result(body),
-            Tag::PassedOn => self.passed_on(body),
-            Tag::Dump => self.dump(),
-            Tag::Links => self.links(),
-            Tag::Mode => self.mode(),
-        }
+// A record with this tag and body.
+pub fn play(
+    tag: Tag,
+    body: &[u8],
+    state: &mut State,
+    store: &mut [u8],
+    out: &mut [u8],
+    to: &mut [u8],
+) -> bool {
+    match tag {
+        Tag::Fresh => begin(state, to, b"fresh", OLD_MODE),
+        Tag::FreshWith => begin(state, to, b"fresh_with", options_in(body)),
+        Tag::Batch => push(state, store, out, to, body),
+        Tag::Timer => ring(state, store, out, to, body),
+        Tag::Connected => connect(state, store, out, to, body),
+        Tag::Disconnected => disconnect(state, store, to, body),
+        Tag::Advertising => hear(state, store, to, body),
+        Tag::ScanResponse => respond(state, store, to, body),
+        Tag::Fragment => gather(state, store, out, to, body),
+        Tag::TimerUs => timer_us(state, store, to),
+        Tag::ConnectedHandle => connected_handle(state, store, to),
+        Tag::Result => result(state, store, to, body),
+        Tag::PassedOn => passed_on(state, store, to, body),
+        Tag::Dump => dump(state, store, to),
+        Tag::Links => links(state, to),
+        Tag::Mode => mode(state.core, to),
     }
 }

@@ -70,6 +70,7 @@ fn frame_size(s: &[u8]) -> usize
 // The frames among the first bytes of an output, one after another.
 fn frames(at: Option<Micros>, out: &[u8], bytes: usize) {
     let mut rest = out.get(..bytes).unwrap_or(&[]);
+    // Kept: a while let, since how far a frame goes stands in the frame: no range and no chunks have that step.
     while let Some((first, behind)) = rest.split_at_checked(frame_size(rest)) {
         frame(at, true, first);
         rest = behind;

@@ -2,44 +2,35 @@
 use tool_head::uuids;
 use uuid_value::Uuid;
 
-// A number that was assigned, behind its name.
-fn assigned(name: &[u8], u: Uuid) {
-    tool_say::text(name);
-    tool_say::text(b" ");
-    tool_say::uuid(u);
-}
+// The head's own UUIDs, which a name alone stands for.
+static OWN: [(Uuid, &[u8]); 2] = [
+    (uuids::BAY, b"bay service"),
+    (uuids::OCCUPANCY, b"occupancy"),
+];
 
-// An assigned number, or else the UUID alone.
-fn short(u: Uuid) {
-    if u == uuids::BATTERY {
-        assigned(b"battery service", u);
-        return;
-    }
-    if u == uuids::LEVEL {
-        assigned(b"battery level", u);
-        return;
-    }
-    if u == uuids::STRING {
-        assigned(b"string", u);
-        return;
-    }
-    if u == uuids::CONFIGURATION {
-        assigned(b"configuration", u);
-        return;
-    }
-    tool_say::uuid(u);
+// Assigned numbers, which stand behind their names.
+static ASSIGNED: [(Uuid, &[u8]); 4] = [
+    (uuids::BATTERY, b"battery service"),
+    (uuids::LEVEL, b"battery level"),
+    (uuids::STRING, b"string"),
+    (uuids::CONFIGURATION, b"configuration"),
+];
+
+fn name_in<'a>(names: &[(Uuid, &'a [u8])], u: Uuid) -> Option<&'a [u8]> {
+    let (_, name) = names.iter().find(|known| known.0 == u)?;
+    Some(name)
 }
 
 pub fn name(u: Uuid) {
-    if u == uuids::BAY {
-        tool_say::text(b"bay service");
+    if let Some(own) = name_in(&OWN, u) {
+        tool_say::text(own);
         return;
     }
-    if u == uuids::OCCUPANCY {
-        tool_say::text(b"occupancy");
-        return;
+    if let Some(assigned) = name_in(&ASSIGNED, u) {
+        tool_say::text(assigned);
+        tool_say::text(b" ");
     }
-    short(u);
+    tool_say::uuid(u);
 }
 
 // The UUID that a PDU carries in these bytes.
