@@ -12,6 +12,7 @@ ghost use Rattle.script_rules.specs.Wait.{Looks, check_wait};
 ghost use Rattle.script_rules.specs.Start.{waits_for, start_unlinked, forgotten, discover_in, disconnect, carried, start_linked, start};
 ghost use Rattle.state_core.specs.Reading.{central, held, world};
 
+use gatt_services::Service;
 use script_rules::Alone;
 use state::{LinkRequest, Sent, Step, StepStatus};
 use state_core::{Core, Turn};

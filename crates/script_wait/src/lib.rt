@@ -6,6 +6,7 @@ ghost use Rattle.state_places.specs.Sizes.{store_size};
 ghost use Rattle.script_rules.specs.Wait.{Looks, wanted, wait_passes, passed_on, passed, check_one, awaited, check_wait};
 ghost use Rattle.state_core.specs.Reading.{central, held};
 
+use gatt_characteristics::Characteristic;
 use notifications::{Age, Wanted};
 use script_rules::Awaited;
 use state::{Counters, Step, StepStatus};
