@@ -24,11 +24,21 @@ const NOTIFY: u8 = 0x01;
 
 const INDICATE: u8 = 0x02;
 
+fn at_least(mtu: u16) -> u16
+    ensures { result ≡ max mtu default_mtu }
+{
+    if mtu < att_pdu::DEFAULT_MTU {
+        att_pdu::DEFAULT_MTU
+    } else {
+        mtu
+    }
+}
+
 pub fn start_mtu(t: Turn, out: &mut [u8], at: Micros, mtu: u16) -> Turn
     requires { Room t.sent (length out.old) 7 }
     ensures { (w s : List ℕ) → world result w s out.new ≡ request (world t w s out.old) at (exchange_mtu_req (max mtu default_mtu)) }
 {
-    let pdu = att_pdu::exchange_mtu_req(mtu.max(att_pdu::DEFAULT_MTU));
+    let pdu = att_pdu::exchange_mtu_req(at_least(mtu));
     script_turns::request(t, out, at, &pdu)
 }
 
