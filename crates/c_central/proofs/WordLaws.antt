@@ -1,8 +1,7 @@
 -- The words of a core in which nothing is held of a frame.
 use Prim.Native.Nat.{ℕ, zero, suc}
 use mathlib.Core.Path.{◌≡◌, refl, sym, ap, ◌∙◌}
-use mathlib.Core.Bool.{Bool, true, false, true≢false}
-use Rattle.std.specs.Prelude.{Option, None, Some, is_none}
+use mathlib.Core.Bool.{Bool, true, false}
 use mathlib.Core.List.{List, [], ◌∷◌}
 use lib.ListN.{get_or, set}
 use lib.Seq.{get_or-set_other}
@@ -10,9 +9,7 @@ use lib.Dec.{eqb}
 use native.Mathlib.Omega.{arith}
 use borrow.Author.Tests.{ne_eqb}
 use Rattle.bytes_base.specs.Choice.{pick}
-use Rattle.state_refusals.specs.declared.Refusal.{Refusal}
-use Rattle.state_refusals.specs.Refusals.{long_frame, told_number}
-use Rattle.state_refusals.proofs.RefusalLaws.{not-accepted}
+use Rattle.state_refusals.specs.Refusals.{long_frame}
 use Rattle.state_core.specs.declared.Core.{Core}
 use Rattle.link_call.specs.Leaves.{emptied}
 use Rattle.c_core.specs.Layout.{core_in}
@@ -87,13 +84,3 @@ stays_here why w h = rw (ne_eqb why long_frame h)
 -- a refusal of a long frame is one
 pub not-both : (why : ℕ) → why ≡ 0 → why ≡ long_frame → ⊥
 not-both why e f = omega arith
-
--- ---- whether a call is refused
-
-pub none-told : (r : Option Refusal) → is_none r ≡ true → told_number r ≡ 0
-none-told None e = refl
-none-told (Some why) e = absurd (true≢false (sym e))
-
-pub some-told : (r : Option Refusal) → is_none r ≡ false → told_number r ≡ 0 → ⊥
-some-told None e = λ h. absurd (true≢false e)
-some-told (Some why) e = not-accepted why

@@ -36,8 +36,9 @@ use uuid_value::Uuid;
 fn give_core(core: &mut [u64; 37], refusal: Option<Refusal>, next: Core)
     ensures { Given (told_number refusal) next core.old core.new }
 {
-    if refusal.is_none() {
-        c_core::encode(core, next);
+    match refusal {
+        None => c_core::encode(core, next),
+        Some(_) => {}
     }
 }
 
@@ -52,8 +53,9 @@ fn give(core: &mut [u64; 37], told: &mut [u64; 8], a: Answer<Core, Sent>)
 fn give_fragment(core: &mut [u64; 37], told: &mut [u64; 8], a: Answer<Core, Sent>)
     ensures { (told.new ≡ answer_words (told_number a.refusal) a.gives) × GivenFragment (told_number a.refusal) a.state core.old core.new }
 {
-    *told = c_told::answer_words(state_refusals::told_number(a.refusal), a.gives);
-    if let Some(Refusal::LongFrame) = a.refusal {
+    let why = state_refusals::told_number(a.refusal);
+    *told = c_told::answer_words(why, a.gives);
+    if why == Refusal::LongFrame.number() {
         core[c_core::HELD] = 0;
         return;
     }
