@@ -26,8 +26,6 @@ enum Form {
 // A part with the head's answers and the timer takes fewer turns.
 const MOST_TURNS: usize = 64;
 
-type Store = [u8; state_places::STORE_SIZE];
-
 // `done` is the state at the end of the part.
 fn tell(form: Option<Form>, t: &Turn, done: State, store: &[u8], out: &[u8]) {
     match form {
@@ -56,7 +54,7 @@ fn turn(
 #[derive(Drop)]
 struct Teller<'a> {
     form: Form,
-    store: &'a mut Store,
+    store: &'a mut [u8],
     out: &'a mut [u8],
 }
 
@@ -67,10 +65,10 @@ impl Teller<'_> {
         form: Option<Form>,
         part: Part,
         from: State,
-        store: &Store,
+        store: &[u8],
         done: State,
     ) -> State {
-        self.store.copy_from_slice(store);
+        bytes_copies::copy_in(self.store, 0, store, 0, store.len());
         let mut n = play::begins(part, from);
         for _ in 0..MOST_TURNS {
             let Some(h) = play::happening(&n, self.store) else {
@@ -82,7 +80,7 @@ impl Teller<'_> {
     }
 
     // The same. It is played in silence first, since a step's line in a timeline says how the step ends.
-    fn play(&mut self, part: Part, from: State, store: &Store) -> State {
+    fn play(&mut self, part: Part, from: State, store: &[u8]) -> State {
         let done = self.run(None, part, from, store, from);
         let form = self.form;
         self.run(Some(form), part, from, store, done)
@@ -113,7 +111,7 @@ fn rule() {
     );
 }
 
-fn mornings(teller: &mut Teller, evening: State, store: &Store) {
+fn mornings(teller: &mut Teller, evening: State, store: &[u8]) {
     heading(b"05:00, with waits that have no age");
     teller.play(Part::AnyAge, evening, store);
     match teller.form {
@@ -142,7 +140,7 @@ fn tell_night(form: Form) {
     let empty = [0u8; state_places::STORE_SIZE];
     let evening = teller.play(Part::Evening, central::fresh::fresh(), &empty);
     let mut store = empty;
-    store.copy_from_slice(teller.store);
+    bytes_copies::copy_in(&mut store, 0, teller.store, 0, teller.store.len());
     mornings(&mut teller, evening, &store);
 }
 
