@@ -24,7 +24,7 @@ use Rattle.script_rules.specs.Events.{expire, connect, lose, on_timer, gate_conn
 use Rattle.link_rules.specs.Fragment.{with_held, held_fits, gate_fragment, refusing}
 use Rattle.link_rules.specs.Link.{hear, on_fragment}
 use Rattle.state_readers.specs.Readers.{timer_of, timer, handle_of, handle, given, result_answer, heard_by, named, passed_on}
-use Rattle.state_refusals.specs.Refused.{refused}
+use Rattle.state_refusals.specs.Refused as answer
 use Rattle.std.specs.Prelude.{Ok}
 use Rattle.thm_reading.specs.Live.{live}
 use Rattle.thm_reading.proofs.Tables.{cut_twice, live-twice}
@@ -146,20 +146,20 @@ on-disconnected-blind c store at =
 
 pub timer-blind : (c : Central) (store : ℕ) → timer c store ≡ timer (live c) store
 unfolding timer
-timer-blind c store = ap (λ (g : ℕ). unless g refused (Ok (timer_of c.running))) (gate-reader-blind c store)
+timer-blind c store = ap (λ (g : ℕ). unless g answer.refused (Ok (timer_of c.running))) (gate-reader-blind c store)
 
 pub handle-blind : (c : Central) (store : ℕ) → handle c store ≡ handle (live c) store
 unfolding handle
-handle-blind c store = ap (λ (g : ℕ). unless g refused (Ok (handle_of c.bearer))) (gate-reader-blind c store)
+handle-blind c store = ap (λ (g : ℕ). unless g answer.refused (Ok (handle_of c.bearer))) (gate-reader-blind c store)
 
 pub result-blind : (c : Central) (store index : ℕ) → result_answer c store index ≡ result_answer (live c) store index
 unfolding result_answer
 result-blind c store index = λ i.
-    unless (gate-reader-blind c store i) refused (Ok (given index 0 (sym (cut_twice c.results.count c.results.kept) i)))
+    unless (gate-reader-blind c store i) answer.refused (Ok (given index 0 (sym (cut_twice c.results.count c.results.kept) i)))
 
 pub passed-blind : (c : Central) (store index : ℕ) → passed_on c store index ≡ passed_on (live c) store index
 unfolding passed_on
 passed-blind c store index = λ i.
-    unless (gate-reader-blind c store i) refused
+    unless (gate-reader-blind c store i) answer.refused
     (Ok (named (c.counters.notified - c.notifications.count) (sym (cut_twice c.notifications.count c.notifications.kept) i)
     (heard_by index (sym (cut_twice c.results.count c.results.kept) i))))
