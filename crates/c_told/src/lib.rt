@@ -40,11 +40,13 @@ pub fn answer_words(refusal: u8, sent: Sent) -> [u64; 8]
     let request = sent.request;
     match request {
         None => [why, frames, bytes, NOTHING, 0, 0, 0, 0],
-        Some(LinkRequest::Update {
-            interval,
-            latency,
-            timeout,
-        }) => [
+        Some(
+            LinkRequest::Update {
+                interval,
+                latency,
+                timeout,
+            },
+        ) => [
             why,
             frames,
             bytes,

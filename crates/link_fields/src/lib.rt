@@ -35,7 +35,9 @@ pub fn counts(pending: u8, store: &[u8], n: usize) -> bool
 pub fn smaller_mtu(server: u16, ours: u16) -> u16
     ensures { result ≡ smaller_mtu server ours }
 {
-    server.max(att_pdu::DEFAULT_MTU).min(ours.max(att_pdu::DEFAULT_MTU))
+    server
+        .max(att_pdu::DEFAULT_MTU)
+        .min(ours.max(att_pdu::DEFAULT_MTU))
 }
 
 // Where the entries of an answer of n bytes end.

@@ -273,10 +273,10 @@ find-law w words n key o r few long e f g =
     let size : length words ≡ n = ap length e ∙ length-take-le n (drop 736 w) (simp length-drop (omega arith)) in
     let bound : seek key words ≤ n = omega (arith, seek-few key words, size) in
     let same : r ≡ seek key words =
-      g
-      ∙ ap (λ (x : Option ℕ). unwrap_or x n) f
-      ∙ ap₂ (λ (x y : ℕ). unwrap_or (cond (nat_lt x y) (Some x) None) n) (seek-prefix key words) size
-      ∙ go (seek key words) bound (nat_lt (seek key words) n) refl in
+    g
+    ∙ ap (λ (x : Option ℕ). unwrap_or x n) f
+    ∙ ap₂ (λ (x y : ℕ). unwrap_or (cond (nat_lt x y) (Some x) None) n) (seek-prefix key words) size
+    ∙ go (seek key words) bound (nat_lt (seek key words) n) refl in
     (same ∙ ap (seek key) (e ∙ row-taken w 64 n 736 few (omega arith)), omega (arith, same, bound))
   where
     go : (s : ℕ) → s ≤ n → (b : Bool) → nat_lt s n ≡ b → unwrap_or (cond b (Some s) None) n ≡ s

@@ -77,11 +77,11 @@ loop-k-preserved c =
     let a = c.args in
     let q = c.requires in
     let place = c.notification_at-place.ensures in
-      l.invariant
-          ∙ elim c.if-store-place.branch [
-            | then-store-place+else-goes_on w ↦ byte-passed a.wanted a.tables.now a.store.now a.count a.i a.at a.m q.0 q.1 _ _ place refl l.k (omega (arith, q.2)) w.if-store-place.true _ w.goes_on.ensures w.if-goes_on.false
-            | else-store-place w ↦ byte-differs a.wanted a.tables.now a.store.now a.count a.i a.at a.m q.0 q.1 _ _ place refl l.k (omega (arith, q.2)) w.if-store-place.false
-          ]
+    l.invariant
+    ∙ elim c.if-store-place.branch [
+      | then-store-place+else-goes_on w ↦ byte-passed a.wanted a.tables.now a.store.now a.count a.i a.at a.m q.0 q.1 _ _ place refl l.k (omega (arith, q.2)) w.if-store-place.true _ w.goes_on.ensures w.if-goes_on.false
+      | else-store-place w ↦ byte-differs a.wanted a.tables.now a.store.now a.count a.i a.at a.m q.0 q.1 _ _ place refl l.k (omega (arith, q.2)) w.if-store-place.false
+    ]
 
 pub returns : goal.returns
 returns c =
