@@ -57,6 +57,14 @@ named-err =
     let r = rw (ne_eqb b 1 n₁, ne_eqb b 2 n₂, ne_eqb b 3 n₃, ne_eqb b 4 n₄, ne_eqb b 5 n₅) at q in
     (header-none b n₁ n₂ n₃ n₄ n₅, cc))
 
+-- and its payload has as many bytes as the header's last one tells
+pub named-err-payload : (b : ℕ) (e : UndefinedIndicator) → Err e ≡ named b → (before last : ℕ) → last ≡ payload_size b before last
+unfolding payload_size
+named-err-payload =
+    by-indicator (λ b. (e : UndefinedIndicator) → Err e ≡ named b → (before last : ℕ) → last ≡ payload_size b before last)
+    (λ e q. absurd (cc)) (λ e q. absurd (cc)) (λ e q. absurd (cc)) (λ e q. absurd (cc)) (λ e q. absurd (cc))
+    (λ b n₁ n₂ n₃ n₄ n₅ e q before last. rw (ne_eqb b 2 n₂, ne_eqb b 5 n₅))
+
 -- a header has 3 to 5 bytes
 pub header-most : (i : ℕ) → header_size i ≤ 5
 unfolding header_size

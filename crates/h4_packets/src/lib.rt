@@ -133,6 +133,26 @@ impl From<Lost> for Refusal {
     }
 }
 
+// Bytes of the indicator and the header, or 0 where the indicator is undefined.
+pub fn header_size(indicator: u8) -> usize
+    ensures { result ≡ header_size indicator }
+{
+    match Indicator::try_from(indicator) {
+        Ok(known) => known.header_size(),
+        Err(_) => 0,
+    }
+}
+
+// Bytes behind the header, by its last two bytes; where the indicator is undefined, as many as the last one tells.
+pub fn payload_size(indicator: u8, before: u8, last: u8) -> usize
+    ensures { (result ≡ payload_size indicator before last) × (result < 65536) }
+{
+    match Indicator::try_from(indicator) {
+        Ok(known) => known.payload_size(before, last),
+        Err(_) => usize::from(last),
+    }
+}
+
 // The length of the packet at the front of `there` bytes: `byte(i)` is the one at index i. None where too few are there to tell.
 pub fn packet_len<F: Fn(usize) -> u8>(
     there: usize,
