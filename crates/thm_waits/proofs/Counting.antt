@@ -7,6 +7,7 @@ use native.Mathlib.Omega.{arith}
 use lib.ListN.{length}
 use lib.Dec.{eqb, leb}
 use borrow.Author.Tests.{eqb-true, leb-true, leb-false, le-leb, lt-leb}
+use Rattle.std.specs.Prelude.{Some, None}
 use Rattle.bytes_base.specs.Choice.{pick}
 use Rattle.bytes_base.proofs.TestLaws.{both}
 use Rattle.lists.specs.Blocks.{Valued}
@@ -191,7 +192,7 @@ up-to now y h = go (leb now y) refl
     go true e = sym (le-leb now (min y largest) (omega (arith, leb-true now y e, h)))
     go false e = sym (lt-leb now (min y largest) (omega (arith, leb-false now y e)))
 
-grouped : (a b c d : Bool) → (a && b && c && d) ≡ (a && (true && b && c && d))
+grouped : (a b c d : Bool) → (a && b && c && d) ≡ (a && (b && c && d))
 grouped true b c d = refl
 grouped false b c d = refl
 
@@ -200,7 +201,7 @@ module _ (handle link : ℕ) (now : Micros) (age : Millis) (time : now.0 ≤ lat
   terms = record { handle = handle; link = link; now = now; age = age }
 
   abbrev wanted : Wanted
-  wanted = record { handle = handle; age = Within age; linked = true; link = link; now = now }
+  wanted = record { handle = handle; age = Within age; link = Some link; now = now }
 
   same-counts : (x : Notification) → code.counts wanted x ≡ counts terms x
   unfolding code.counts later
@@ -214,11 +215,11 @@ module _ (handle link : ℕ) (now : Micros) (age : Millis) (time : now.0 ≤ lat
 
 -- an aged wait counts with a link only
 pub linked-then : (handle link : ℕ) (now : Micros) (age : Millis) (linked : Bool) (x : Notification)
-    → code.counts (record { handle = handle; age = Within age; linked = linked; link = link; now = now }) x ≡ true → linked ≡ true
+    → code.counts (record { handle = handle; age = Within age; link = pick linked (Some link) None; now = now }) x ≡ true → linked ≡ true
 unfolding code.counts later
 linked-then handle link now age true x e = refl
 linked-then handle link now age false x e = absurd (false≢true (sym (never (eqb x.handle handle)) ∙ e))
   where
-    never : (a : Bool) → (a && (false && eqb x.link link && leb x.at.0 now.0 && leb now.0 (min (x.at.0 + age.0 * 1000) largest))) ≡ false
+    never : (a : Bool) → (a && (false && leb x.at.0 now.0 && leb now.0 (min (x.at.0 + age.0 * 1000) largest))) ≡ false
     never true = refl
     never false = refl

@@ -1,5 +1,5 @@
 -- What a turn of the script gives, and what it leaves of all that waits go by.
-use Rattle.std.specs.Prelude.{Some}
+use Rattle.std.specs.Prelude.{Some, None}
 use Prim.Native.Nat.{ℕ, zero, suc, ◌+◌, ◌-◌, ◌≤◌, min, max}
 use mathlib.Core.Path.{◌≡◌, refl, sym, ap, ap₂, ◌∙◌, subst}
 use mathlib.Core.Bool.{Bool, true, false, ◌&&◌, ◌||◌, false≢true}
@@ -138,7 +138,7 @@ module _ {F : ℕ} {L : List (Valued Notification)} {N : ℕ} {P : Bool} {b : Bo
         some =
             ap (λ (j : ℕ). numbered (counts (record { handle = z.value_handle; link = N; now = at; age = age })) j (drop j L)) (sym first-is)
             ∙ sym (same_chosen z.value_handle N at age time first (drop first L))
-            ∙ ap₂ (λ (i : Bool) (n : ℕ). chosen (record { handle = z.value_handle; age = Within age; linked = i; link = n; now = at }) first (drop first L)) (sym there) (sym e.links)
+            ∙ ap₂ (λ (i : Bool) (n : ℕ). chosen (record { handle = z.value_handle; age = Within age; link = pick i (Some n) None; now = at }) first (drop first L)) (sym there) (sym e.links)
             ∙ k.some;
         named = h ∙ told w age ∙ k.named;
         stands = k.stands;
