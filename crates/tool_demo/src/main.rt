@@ -140,7 +140,8 @@ fn tell_night(form: Form) {
     let empty = [0u8; state_places::STORE_SIZE];
     let evening = teller.play(Part::Evening, central::fresh::fresh(), &empty);
     let mut store = empty;
-    bytes_copies::copy_in(&mut store, 0, teller.store, 0, teller.store.len());
+    let size = teller.store.len();
+    bytes_copies::copy_in(&mut store, 0, teller.store, 0, size);
     mornings(&mut teller, evening, &store);
 }
 
