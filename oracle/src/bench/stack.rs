@@ -66,7 +66,7 @@ unsafe extern "C" {
 }
 
 /// The most that a call may need.
-const MOST: usize = 13_312;
+const MOST: usize = 12_288;
 
 /// The same where a batch of 64 steps, by value and with its copies, lies on the stack that is measured.
 const MOST_WITH_A_BATCH: usize = 17_408;
