@@ -21,6 +21,14 @@ pub const DEFAULT_MTU: u16 = 23;
 // Core Vol 3 Part F 3.2.2: no handle is after this one.
 pub const LAST_HANDLE: u16 = 0xFFFF;
 
+// What an answer with entries leaves: the table after it, the handle of the last entry read, and whether an entry had no place.
+#[derive(Clone, Copy)]
+pub struct Found<T> {
+    pub table: T,
+    pub last: u16,
+    pub full: bool,
+}
+
 // An opcode and one number.
 fn with_number(opcode: u8, a: u16) -> [u8; 3]
     ensures { result ≡ opcode ∷ le_bytes 2 a }

@@ -11,7 +11,7 @@ use Rattle.lists.specs.First.{first}
 use Rattle.lists.specs.Taken.{Have, taken}
 use Rattle.gatt_characteristics.specs.declared.Characteristic.{Characteristic}
 use Rattle.gatt_characteristics.specs.declared.Characteristics.{Characteristics}
-use Rattle.lists.specs.declared.Found.{Found}
+use Rattle.att_pdu.specs.declared.Found.{Found}
 
 -- ---- a table and its list
 

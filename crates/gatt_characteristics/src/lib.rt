@@ -6,7 +6,7 @@ ghost use Rattle.state_places.specs.Sizes.{most_characteristics};
 ghost use Rattle.lists.specs.Cut.{entries, part};
 ghost use Rattle.gatt_characteristics.specs.Characteristic.{known, Rising, place, told, characteristics_taken};
 
-use lists::Found;
+use att_pdu::Found;
 use state_places::MAX_CHARACTERISTICS;
 use uuid_value::Uuid;
 

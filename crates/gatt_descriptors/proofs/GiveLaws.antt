@@ -71,7 +71,7 @@ module _ (h : ℕ) (a : List Characteristic) (c : ℕ) (k : c ≤ length a) wher
   unfolding first
   below-pass j g n q = rw (here zero-characteristic a c j k g, le-ltb (get_or a j zero-characteristic).value_handle h q) n
 
-give-here : (h : ℕ) (t : Characteristics) (j : ℕ) → j < t.count → t.count ≤ 64 → length t.kept ≡ 64
+pub give-here : (h : ℕ) (t : Characteristics) (j : ℕ) → j < t.count → t.count ≤ 64 → length t.kept ≡ 64
     → below h (drop (j + 1) (known t)) ≡ false → (get_or t.kept j zero-characteristic).value_handle < h
     → record { kept = set t.kept j (marked h (get_or t.kept j zero-characteristic)); count = t.count } ≡ holding t (give h (known t))
 give-here h t j g c k n q =

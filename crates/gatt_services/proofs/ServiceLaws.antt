@@ -20,16 +20,16 @@ use Rattle.gatt_services.specs.declared.Services.{Services}
 -- ---- the list after what an entry tells
 
 module _ (l : List Service) (x : Option Service) where
-  with_nothing : x ≡ None → with-one l x ≡ l
+  pub with_nothing : x ≡ None → with-one l x ≡ l
   unfolding with-one
   with_nothing e = rw e
 
   module _ (new : Service) (e : x ≡ Some new) where
-    with-listed : listed new.start l ≡ true → with-one l x ≡ l
+    pub with-listed : listed new.start l ≡ true → with-one l x ≡ l
     unfolding with-one
     with-listed f = rw (e, f)
 
-    with-new : listed new.start l ≡ false → with-one l x ≡ l ++ (new ∷ [])
+    pub with-new : listed new.start l ≡ false → with-one l x ≡ l ++ (new ∷ [])
     unfolding with-one
     with-new f = rw (e, f)
 

@@ -6,7 +6,7 @@ ghost use Rattle.state_places.specs.Sizes.{most_services};
 ghost use Rattle.lists.specs.Cut.{entries, part};
 ghost use Rattle.gatt_services.specs.Service.{told, listed, services_taken};
 
-use lists::Found;
+use att_pdu::Found;
 use state_places::MAX_SERVICES;
 use uuid_value::Uuid;
 

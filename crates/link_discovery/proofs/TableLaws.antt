@@ -6,7 +6,7 @@ use mathlib.Core.Bool.{Bool}
 use mathlib.Core.List.{List}
 use Rattle.time.specs.declared.Micros.{Micros}
 use Rattle.gatt_services.specs.declared.Service.{Service}
-use Rattle.lists.specs.declared.Found.{Found}
+use Rattle.att_pdu.specs.declared.Found.{Found}
 use Rattle.gatt_characteristics.specs.declared.Characteristics.{Characteristics}
 use Rattle.lists.specs.Cut.{entries, part}
 use Rattle.gatt_descriptors.specs.declared.Named.{Named}

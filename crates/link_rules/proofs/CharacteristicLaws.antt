@@ -28,7 +28,7 @@ use Rattle.link_rules.specs.Answers.{width_of}
 use Rattle.link_rules.proofs.AnswerLaws.{entries-are, yes, no}
 use Rattle.link_rules.proofs.AbleLaws.{few}
 use Rattle.gatt_characteristics.specs.Characteristic as characteristic
-use Rattle.lists.specs.declared.Found.{Found}
+use Rattle.att_pdu.specs.declared.Found.{Found}
 
 -- ---- the tables that answers leave
 

@@ -15,7 +15,7 @@ use Rattle.time.specs.Clock.{latest}
 use Rattle.att_pdu.specs.Numbers.{op_error_rsp, op_read_rsp, op_write_rsp, err_attribute_not_found}
 use Rattle.gatt_services.specs.Service as service
 use Rattle.gatt_services.specs.declared.Service.{Service}
-use Rattle.lists.specs.declared.Found.{Found}
+use Rattle.att_pdu.specs.declared.Found.{Found}
 use Rattle.gatt_characteristics.specs.Characteristic.{known, rises, characteristics_taken}
 use Rattle.gatt_descriptors.specs.declared.Named.{Named}
 use Rattle.gatt_descriptors.specs.Named.{descriptors_named}

@@ -25,7 +25,7 @@ use Rattle.link_rules.specs.Services.{walk_into, services_done, services_found, 
 use Rattle.link_rules.proofs.AnswerLaws.{entries-are, yes, no}
 use Rattle.link_rules.proofs.AbleLaws.{few}
 use Rattle.gatt_services.specs.Service as service
-use Rattle.lists.specs.declared.Found.{Found}
+use Rattle.att_pdu.specs.declared.Found.{Found}
 use Rattle.link_questions.specs.declared.Goal.TheVariants as goal
 
 pub services-kept : (x y : Services) (z : Characteristics) (es : List (List ℕ)) (f : Found Services)

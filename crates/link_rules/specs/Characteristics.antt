@@ -4,7 +4,7 @@ use Rattle.bytes_base.specs.Choice.{pick}
 use Rattle.time.specs.declared.Micros.{Micros}
 use Rattle.gatt_services.specs.declared.Service.{Service}
 use Rattle.gatt_characteristics.specs.Characteristic as characteristic
-use Rattle.lists.specs.declared.Found.{Found}
+use Rattle.att_pdu.specs.declared.Found.{Found}
 use Rattle.gatt_descriptors.specs.declared.Named.{Named}
 use Rattle.gatt_descriptors.specs.Named.{descriptors_named}
 use Rattle.state.specs.Central.{with_characteristics}

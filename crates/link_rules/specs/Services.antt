@@ -3,7 +3,7 @@ use Rattle.std.specs.Prelude.{ℕ, ◌+◌, eqb, ltb, Option, Some, None}
 use Rattle.bytes_base.specs.Choice.{pick}
 use Rattle.time.specs.declared.Micros.{Micros}
 use Rattle.gatt_services.specs.Service as service
-use Rattle.lists.specs.declared.Found.{Found}
+use Rattle.att_pdu.specs.declared.Found.{Found}
 use Rattle.state.specs.Central.{with_services}
 use Rattle.state.specs.declared.StepStatus.TheVariants.{Ok, NotFound, TableFull}
 use Rattle.script_rules.specs.World.{World}

@@ -39,6 +39,8 @@ pub fn tables_fit(tables: &[u64; 1152], n: Counts, links: u64) -> bool
         & words_notification::links_fit(tables, n.notifications, links)
 }
 
+// Taken into each gate, so that no core is copied to be tested.
+#[inline(always)]
 fn is_fit(c: Core, tables: &[u64; 1152]) -> bool
     ensures { result ≡ fits (central c tables.now) }
 {

@@ -19,7 +19,7 @@ use Rattle.l2cap_signaling.proofs.AnswerLaws.{Sized, signaling-sized, smp-sized}
 use Rattle.l2cap_params.specs.declared.Parameters.{Parameters}
 use Rattle.std.specs.Prelude.{Option, Some, None}
 use Rattle.gatt_services.specs.declared.Service.{Service}
-use Rattle.lists.specs.declared.Found.{Found}
+use Rattle.att_pdu.specs.declared.Found.{Found}
 use Rattle.gatt_descriptors.specs.declared.Named.{Named}
 use Rattle.state.specs.Central.{with_services, with_characteristics}
 use Rattle.state_rules.specs.Steps.{most_mtu}

@@ -45,7 +45,7 @@ pub struct Night {
 }
 
 // What happened and the bytes that were heard at it, on which state; what the call gave; how far the night is then.
-#[derive(Drop)]
+#[derive(Clone, Copy)]
 pub struct Turn<'a> {
     pub before: State,
     pub night: Night,

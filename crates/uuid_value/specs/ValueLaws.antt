@@ -37,10 +37,10 @@ eqb-by : (a b c d : ℕ) (t : Bool) → eqb a b ≡ t → (a ≡ b → c ≡ d) 
 eqb-by a b c d true e f g = sym (eq-eqb c d (f (eqb-true a b e)))
 eqb-by a b c d false e f g = sym (ne_eqb c d (λ p. eqb-false a b e (g p)))
 
-same_low : (u v : Uuid) → u.low ≡ v.low → eqb u.high v.high ≡ eqb (num u) (num v)
+pub same_low : (u v : Uuid) → u.low ≡ v.low → eqb u.high v.high ≡ eqb (num u) (num v)
 same_low u v e = eqb-by u.high v.high (num u) (num v) (eqb u.high v.high) refl (λ p. omega arith) (λ p. omega arith)
 
-other-low : (u v : Uuid) → u.low < 2 ^ 64 → v.low < 2 ^ 64 → (u.low ≡ v.low → ⊥) → false ≡ eqb (num u) (num v)
+pub other-low : (u v : Uuid) → u.low < 2 ^ 64 → v.low < 2 ^ 64 → (u.low ≡ v.low → ⊥) → false ≡ eqb (num u) (num v)
 other-low u v p q n = sym (ne_eqb (num u) (num v) (λ (e : num u ≡ num v). n (omega arith)))
 
 -- The `==` that Uuid derives says whether the numbers are one, of UUIDs whose low halves have 64 bits, as each Uuid of the code has.

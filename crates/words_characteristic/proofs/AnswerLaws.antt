@@ -10,7 +10,7 @@ use Rattle.lists.proofs.TableLaws.{take-onto}
 use Rattle.gatt_characteristics.specs.Characteristic.{known, Rising, more, declaration_of, characteristics_taken}
 use Rattle.gatt_characteristics.specs.declared.Characteristic.{Characteristic}
 use Rattle.gatt_characteristics.specs.declared.Characteristics.{Characteristics}
-use Rattle.lists.specs.declared.Found.{Found}
+use Rattle.att_pdu.specs.declared.Found.{Found}
 use Rattle.gatt_characteristics.proofs.Keeps.{taken-count}
 use Rattle.gatt_descriptors.specs.Named.{given_all, descriptors_named}
 use Rattle.gatt_descriptors.specs.declared.Named.{Named}

@@ -5,7 +5,7 @@ use Rattle.lists.specs.Cut.{entries, part}
 use Rattle.gatt_characteristics.specs.Characteristic.{characteristics_taken}
 use Rattle.gatt_characteristics.specs.declared.Characteristic.{Characteristic}
 use Rattle.gatt_characteristics.specs.declared.Characteristics.{Characteristics}
-use Rattle.lists.specs.declared.Found.{Found}
+use Rattle.att_pdu.specs.declared.Found.{Found}
 use Rattle.gatt_descriptors.specs.Range.{range_or}
 use Rattle.gatt_descriptors.specs.Named.{descriptors_named}
 use Rattle.gatt_descriptors.specs.declared.Named.{Named}

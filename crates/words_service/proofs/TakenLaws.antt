@@ -13,7 +13,7 @@ use Rattle.lists.proofs.TakenLaws.{taken-most}
 use Rattle.gatt_services.specs.Service.{known, more, end_of, services_taken}
 use Rattle.gatt_services.specs.declared.Service.{Service}
 use Rattle.gatt_services.specs.declared.Services.{Services}
-use Rattle.lists.specs.declared.Found.{Found}
+use Rattle.att_pdu.specs.declared.Found.{Found}
 use Rattle.words.specs.Tables.{tables, with_services, services_in}
 use Rattle.words.proofs.RowLaws.{length-services}
 use Rattle.words_service.specs.Taken.{taken_in}

@@ -2,7 +2,7 @@
 use Rattle.std.specs.Prelude.{ℕ, List}
 use Rattle.lists.specs.Cut.{entries, part}
 use Rattle.gatt_services.specs.Service.{services_taken}
-use Rattle.lists.specs.declared.Found.{Found}
+use Rattle.att_pdu.specs.declared.Found.{Found}
 use Rattle.words.specs.Tables.{services_in}
 use Rattle.gatt_services.specs.declared.Services.{Services}
 
