@@ -25,6 +25,22 @@ fn digit(b: u8) -> u8 {
     if d < 10 { b'0' + d } else { b'a' - 10 + d }
 }
 
+// A byte at its place; the next place. A full buffer is written out first.
+fn put(to: &mut [u8], at: usize, b: u8) -> usize {
+    if at < to.len() {
+        to[at] = b;
+        return at + 1;
+    }
+    io::write_all(STDOUT_FILENO, to);
+    match to.first_mut() {
+        Some(place) => {
+            *place = b;
+            1
+        }
+        None => 0,
+    }
+}
+
 impl<'a> Line<'a> {
     // A line that begins with this text.
     pub fn begin(to: &'a mut [u8], s: &[u8]) -> Self {
@@ -34,21 +50,17 @@ impl<'a> Line<'a> {
     }
 
     fn put(&mut self, b: u8) {
-        if self.at == self.to.len() {
-            io::write_all(STDOUT_FILENO, self.to);
-            self.at = 0;
-        }
-        if let Some(place) = self.to.get_mut(self.at) {
-            *place = b;
-            self.at += 1;
-        }
+        self.at = put(self.to, self.at, b);
     }
 
-    // Bytes as they are.
+    // Bytes as they are. Buffer and place are locals on the way: a byte must not cost loads and a store of them.
     pub fn text(&mut self, s: &[u8]) {
+        let to = &mut *self.to;
+        let mut at = self.at;
         for b in s {
-            self.put(*b);
+            at = put(to, at, *b);
         }
+        self.at = at;
     }
 
     // One more word: a space stands before it.
@@ -97,10 +109,13 @@ impl<'a> Line<'a> {
             return;
         }
         self.put(b' ');
+        let to = &mut *self.to;
+        let mut at = self.at;
         for b in s {
-            self.put(digit(*b / 16));
-            self.put(digit(*b));
+            at = put(to, at, digit(*b / 16));
+            at = put(to, at, digit(*b));
         }
+        self.at = at;
     }
 
     // So many bytes from a place on. A place outside s is none that a fit state has.
