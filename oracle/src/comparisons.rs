@@ -43,7 +43,7 @@ fn in_place(input: &Input) -> bool {
         store[NOTIFICATIONS_AT + i * MAX_VALUE..][..value.len()].copy_from_slice(value);
     }
     store[..input.needle.len()].copy_from_slice(&input.needle);
-    let wanted = Wanted { handle: OWN, age: Age::Any, linked: false, link: 0, now: Micros(0) };
+    let wanted = Wanted { handle: OWN, age: Age::Any, link: None, now: Micros(0) };
     is_found(&tables, input.kept.len(), 0, wanted, &store, 0, input.needle.len())
 }
 

@@ -1,5 +1,5 @@
 -- Laws of the search: what a place adds to the joined values, and what is left to compare after one byte, one value, one place.
-use Prim.Native.Nat.{ℕ, zero, suc, ◌+◌, ◌*◌, ◌-◌, ◌<◌, ◌≤◌, min}
+use Prim.Native.Nat.{ℕ, zero, suc, ◌+◌, ◌-◌, ◌<◌, ◌≤◌, min}
 use mathlib.Core.Path.{◌≡◌, refl, sym, ap, ap₂, ◌∙◌}
 use mathlib.Core.Bool.{Bool, true, false, ◌&&◌, ◌||◌}
 use mathlib.Core.List.{List, [], ◌∷◌, ◌++◌}
@@ -8,7 +8,6 @@ use native.Mathlib.Omega.{arith}
 use lib.ListN.{length, take, drop, get_or, length-append, length-drop, drop_of_length-le}
 use lib.Seq.{drop-cons, drop-append-le, take-append-le, drop_at, drop-drop, take-take, take-nil, get_or-take, get_or-drop, length-take-le}
 use lib.Dec.{eqb, leb}
-use lib.Pointwise.{pointwise}
 use borrow.Author.Tests.{eq-eqb, ne_eqb, leb-true, leb-false}
 use Rattle.bytes_base.specs.Choice.{pick}
 use Rattle.state_places.specs.Sizes.{value_size, notification_at, held_at}
@@ -132,27 +131,28 @@ within s at m j n h =
     ∙ ap (take n) (drop-take j (m - j) (drop at s) ∙ ap (take (m - j)) (drop-drop j at s))
     ∙ take-take n (m - j) (drop (at + j) s) (omega arith)
 
--- ---- comparing at once
+-- ---- comparing byte by byte
 
 pub needle-length : (s : List ℕ) (at m : ℕ) → at + m ≤ length s → length (bytes s at m) ≡ m
 needle-length s at m h = length-take-le m (drop at s) (simp length-drop (omega arith))
 
--- lists of one length
-pointwise-starts : (xs ys : List ℕ) → length xs ≡ length ys → pointwise eqb xs ys ≡ starts xs ys
-unfolding starts
-pointwise-starts [] [] e = refl
-pointwise-starts [] (y ∷ ys) e = absurd (omega arith)
-pointwise-starts (x ∷ xs) [] e = absurd (omega arith)
-pointwise-starts (x ∷ xs) (y ∷ ys) e = ap (λ (b : Bool). eqb x y && b) (pointwise-starts xs ys (omega arith))
+needle-on : (s : List ℕ) (at m : ℕ) → at + m ≤ length s → (j : ℕ) → j < m → drop j (bytes s at m) ≡ get_or s (at + j) 0 ∷ drop (j + 1) (bytes s at m)
+needle-on s at m h j p =
+    rw (add-one j, drop-cons (bytes s at m) j 0 (omega (arith, needle-length s at m h)), get_or-take m (drop at s) j 0 p, get_or-drop at s j 0)
 
-pub equal-law : (s : List ℕ) (p q n : ℕ) (r : Bool) → p + n ≤ length s → q + n ≤ length s
-    → r ≡ pointwise eqb (take (q + n - q) (drop q s)) (take (p + n - p) (drop p s)) → r ≡ starts (bytes s q n) (bytes s p n)
-equal-law s p q n r h g e =
-    let i : q + n - q ≡ n = omega arith in
-    let j : p + n - p ≡ n = omega arith in
-    e
-    ∙ ap₂ (λ (a b : ℕ). pointwise eqb (take a (drop q s)) (take b (drop p s))) i j
-    ∙ pointwise-starts (bytes s q n) (bytes s p n) (needle-length s q n g ∙ sym (needle-length s p n h))
+-- the n bytes from q on, and those from p on
+module _ (s : List ℕ) (p q n : ℕ) (hp : p + n ≤ length s) (hq : q + n ≤ length s) (j : ℕ) (h : j < n) where
+  step : starts (drop j (bytes s q n)) (drop j (bytes s p n))
+      ≡ (eqb (get_or s (q + j) 0) (get_or s (p + j) 0) && starts (drop (j + 1) (bytes s q n)) (drop (j + 1) (bytes s p n)))
+  unfolding starts
+  step = ap₂ starts (needle-on s q n hq j h) (needle-on s p n hp j h)
+
+  pub equal-on : get_or s (p + j) 0 ≡ get_or s (q + j) 0
+      → starts (drop j (bytes s q n)) (drop j (bytes s p n)) ≡ starts (drop (j + 1) (bytes s q n)) (drop (j + 1) (bytes s p n))
+  equal-on e = rw (step, eq-eqb (get_or s (q + j) 0) (get_or s (p + j) 0) (sym e))
+
+  pub equal-off : (get_or s (p + j) 0 ≡ get_or s (q + j) 0 → ⊥) → starts (drop j (bytes s q n)) (drop j (bytes s p n)) ≡ false
+  equal-off e = rw (step, ne_eqb (get_or s (q + j) 0) (get_or s (p + j) 0) (λ g. e (sym g)))
 
 -- ---- comparing in parts, and needles that are too long
 
@@ -207,9 +207,7 @@ module _ (s : List ℕ) (at m : ℕ) (hs : at + m ≤ length s) (x y : List ℕ)
   needle-first : 0 < m → bytes s at m ≡ get_or s at 0 ∷ drop 1 (bytes s at m)
   needle-first h =
       let f : at + 0 ≡ at = omega arith in
-      drop-cons (bytes s at m) 0 0 (omega (arith, needle-length s at m hs))
-      ∙ ap (λ (b : ℕ). b ∷ drop 1 (bytes s at m))
-      (get_or-take m (drop at s) 0 0 h ∙ get_or-drop at s 0 0 ∙ ap (λ (j : ℕ). get_or s j 0) f)
+      needle-on s at m hs 0 h ∙ ap (λ (j : ℕ). get_or s j 0 ∷ drop 1 (bytes s at m)) f
 
   try : (k : ℕ) → 0 < m → k < z
       → contains (bytes s at m) (drop k x)

@@ -169,7 +169,13 @@ fn are_equal(store: &[u8], p: usize, q: usize, n: usize) -> bool
     requires { (p + n ≤ length store.now) × (q + n ≤ length store.now) }
     ensures { result ≡ starts (bytes store.now q n) (bytes store.now p n) }
 {
-    store[q..q + n] == store[p..p + n]
+    // Byte by byte, up to the first that differs: `==` of slices would compare bytes past it.
+    for j in 0..n {
+        if store[p + j] != store[q + j] {
+            return false;
+        }
+    }
+    true
 }
 
 // Whether the values go on, from byte `from` of place `first` on, with the m bytes of the store from at on but the first.
