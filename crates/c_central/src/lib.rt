@@ -19,7 +19,7 @@ ghost use Rattle.state_readers.specs.Readers.{timer, handle, result_answer, pass
 ghost use Rattle.c_core.specs.Layout.{options_in, core_in};
 ghost use Rattle.c_steps.specs.Steps.{batch_in};
 ghost use Rattle.c_told.specs.Told.{answer_words, refusal_words, advertised_words};
-ghost use Rattle.c_told.specs.Read.{timer_words, handle_words, given_words, passed_words, seen_words, spot_words, sighting_words};
+ghost use Rattle.c_told.specs.Read.{by_number, timer_words, handle_words, given_words, passed_words, seen_words, spot_words, sighting_words};
 ghost use Rattle.c_central.specs.After.{outcome, quiet, heard, Answered, Refused, Acted, Given, GivenFragment, Kept, KeptFragment, KeptQuietly};
 
 use central_answers::Answer;
@@ -261,6 +261,13 @@ pub extern "C" fn barleyrope_on_scan_response_words(
 
 // ---- calls that only read. They tell: refusal, 1 if there is what was asked for, its numbers
 
+// What a reader answers, with the number of its refusal.
+fn by_number<A>(x: Result<A, Refusal>) -> Result<A, u8>
+    ensures { result ≡ by_number x }
+{
+    x.map_err(Refusal::number)
+}
+
 // When the running step is to be ended by a timer call.
 #[unsafe(no_mangle)]
 pub extern "C" fn barleyrope_timer_us_words(
@@ -272,7 +279,7 @@ pub extern "C" fn barleyrope_timer_us_words(
     ensures { told.new ≡ timer_words (timer (central (core_in core.now) tables.now) (length store.now)) }
 {
     let c = c_core::decode(core);
-    *told = c_told::timer_words(state_readers::timer_us(c, tables, store));
+    *told = c_told::timer_words(by_number(state_readers::timer_us(c, tables, store)));
 }
 
 // The handle of the link.
@@ -286,7 +293,7 @@ pub extern "C" fn barleyrope_connected_handle_words(
     ensures { told.new ≡ handle_words (handle (central (core_in core.now) tables.now) (length store.now)) }
 {
     let c = c_core::decode(core);
-    *told = c_told::handle_words(state_readers::connected_handle(c, tables, store));
+    *told = c_told::handle_words(by_number(state_readers::connected_handle(c, tables, store)));
 }
 
 // The kept result of an index: time, status, ATT error code, place and length of its value.
@@ -301,7 +308,7 @@ pub extern "C" fn barleyrope_result_words(
     ensures { told.new ≡ given_words (result_answer (central (core_in core.now) tables.now) (length store.now) index) }
 {
     let c = c_core::decode(core);
-    *told = c_told::given_words(state_readers::result(c, tables, store, index));
+    *told = c_told::given_words(by_number(state_readers::result(c, tables, store, index)));
 }
 
 // The notification that the kept result of an index names: time, link, handle, whether it is an indication, place and length of its value.
@@ -316,7 +323,7 @@ pub extern "C" fn barleyrope_passed_on_words(
     ensures { told.new ≡ passed_words (passed_on (central (core_in core.now) tables.now) (length store.now) index) }
 {
     let c = c_core::decode(core);
-    *told = c_told::passed_words(state_readers::passed_on(c, tables, store, index));
+    *told = c_told::passed_words(by_number(state_readers::passed_on(c, tables, store, index)));
 }
 
 // Report i: time, channel, PDU type, address, place and length of its data, whether it has a scan response, its place and length.
@@ -331,7 +338,7 @@ pub extern "C" fn barleyrope_report_words(
     ensures { told.new ≡ seen_words (view (central (core_in core.now) tables.now) (length store.now) i) }
 {
     let c = c_core::decode(core);
-    *told = c_told::seen_words(radio_views::report(c, tables, store, i));
+    *told = c_told::seen_words(by_number(radio_views::report(c, tables, store, i)));
 }
 
 // Where the advertising data of report i stands in the store.
@@ -346,7 +353,7 @@ pub extern "C" fn barleyrope_report_data_words(
     ensures { told.new ≡ spot_words (data_seen (view (central (core_in core.now) tables.now) (length store.now) i)) }
 {
     let c = c_core::decode(core);
-    *told = c_told::spot_words(radio_views::report_data_at(c, tables, store, i));
+    *told = c_told::spot_words(by_number(radio_views::report_data_at(c, tables, store, i)));
 }
 
 // Where the scan response of report i stands in the store.
@@ -361,7 +368,7 @@ pub extern "C" fn barleyrope_report_response_words(
     ensures { told.new ≡ spot_words (response_seen (view (central (core_in core.now) tables.now) (length store.now) i)) }
 {
     let c = c_core::decode(core);
-    *told = c_told::spot_words(radio_views::report_response_at(c, tables, store, i));
+    *told = c_told::spot_words(by_number(radio_views::report_response_at(c, tables, store, i)));
 }
 
 // Where the body of the structure of report i stands that lists the service, of its data or else of its scan response.
@@ -379,13 +386,13 @@ pub extern "C" fn barleyrope_report_body_words(
         (view (central (core_in core.now) tables.now) (length store.now) i)) }
 {
     let c = c_core::decode(core);
-    *told = c_told::spot_words(radio_views::report_body_at(
+    *told = c_told::spot_words(by_number(radio_views::report_body_at(
         c,
         tables,
         store,
         i,
         Uuid { low, high },
-    ));
+    )));
 }
 
 // What report i tells of a service, by its data and its scan response: 0 absent, 1 listed, 2 unknown.
@@ -404,5 +411,6 @@ pub extern "C" fn barleyrope_report_presence_words(
 {
     let c = c_core::decode(core);
     let service = Uuid { high, low };
-    *told = c_told::sighting_words(radio_views::report_presence(c, tables, store, i, service));
+    let answer = radio_views::report_presence(c, tables, store, i, service);
+    *told = c_told::sighting_words(by_number(answer));
 }

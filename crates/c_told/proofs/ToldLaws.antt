@@ -1,13 +1,16 @@
 -- What the words of an answer say is that answer.
 use Prim.Native.Nat.{ℕ}
-use Rattle.std.specs.Prelude.{Option, Some, None}
-use mathlib.Core.Path.{◌≡◌, refl, sym, ap}
+use Rattle.std.specs.Prelude.{List, Option, Some, None, Result, Ok, Err}
+use mathlib.Core.Path.{◌≡◌, refl, sym, ap, ◌∙◌}
+use Rattle.state_refusals.specs.declared.Refusal.{Refusal}
+use Rattle.state_refusals.specs.Refusals.{number}
 use Rattle.state.specs.declared.Sent.{Sent}
 use Rattle.state.specs.declared.LinkRequest.{LinkRequest}
 use Rattle.state.specs.declared.LinkRequest.TheVariants as request
 use Rattle.radio_match.specs.declared.AdvAction.{AdvAction}
 use Rattle.radio_match.specs.declared.AdvAction.TheVariants as action
 use Rattle.c_told.specs.Told.{answer_words, refusal_in, sent_in, refusal_words, advertised_words, action_in}
+use Rattle.c_told.specs.Read.{by_number, told_words}
 
 pub answer-refusal : (why : ℕ) (s : Sent) → refusal_in (answer_words why s) ≡ why
 unfolding refusal_in
@@ -47,3 +50,13 @@ answer-law why s q e = ap (λ (x : Option LinkRequest). answer_words why (record
 pub quiet-action : (why : ℕ) → action_in (refusal_words why) ≡ action.Nothing
 unfolding action_in
 quiet-action why = refl
+
+-- an answer that is handed on with the number of its refusal is told as the answer itself
+told_words-by_number : {A : Type 0} (refused : ℕ → List ℕ) (words : Result A Refusal → List ℕ) → ((why : Refusal) → refused (number why) ≡ words (Err why))
+    → (x : Result A Refusal) → told_words refused words (by_number x) ≡ words x
+told_words-by_number refused words h (Err why) = h why
+told_words-by_number refused words h (Ok x) = refl
+
+pub handed-on : {A : Type 0} (refused : ℕ → List ℕ) (words : Result A Refusal → List ℕ) → ((why : Refusal) → refused (number why) ≡ words (Err why))
+    → (x : Result A Refusal) (y : Result A ℕ) (told : List ℕ) → told ≡ told_words refused words y → y ≡ by_number x → told ≡ words x
+handed-on refused words h x y told t n = t ∙ ap (told_words refused words) n ∙ told_words-by_number refused words h x

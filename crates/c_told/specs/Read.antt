@@ -13,11 +13,26 @@ pub use Rattle.state_readers.specs.Numbers.{eight, timer_words, handle_words, st
 abbrev pub twelve : ℕ → ℕ → ℕ → ℕ → ℕ → ℕ → ℕ → ℕ → ℕ → ℕ → ℕ → ℕ → List ℕ
 twelve a b c d e f g h i j k l = a ∷ b ∷ c ∷ d ∷ e ∷ f ∷ g ∷ h ∷ i ∷ j ∷ k ∷ l ∷ []
 
+-- ---- an answer whose refusal is a number, whichever: the words of a refusal, or else of what is answered
+
+abbrev pub told_words : {A : Type 0} → (ℕ → List ℕ) → (Result A Refusal → List ℕ) → Result A ℕ → List ℕ
+told_words refused words (Err why) = refused why
+told_words refused words (Ok x) = words (Ok x)
+
+-- an answer with the number of its refusal
+abbrev pub by_number : {A : Type 0} → Result A Refusal → Result A ℕ
+by_number (Err why) = Err (number why)
+by_number (Ok x) = Ok x
+
 -- ---- a report: time | channel | PDU type | address | its data's place | length | 1 if it has a scan response | its place | length
 
 abbrev pub response_there : Option Span → ℕ
 response_there None = 0
 response_there (Some s) = 1
+
+-- of a refused view of a report: its refusal alone
+abbrev pub report_refusal_words : ℕ → List ℕ
+report_refusal_words why = twelve why 0 0 0 0 0 0 0 0 0 0 0
 
 abbrev pub seen_words : Result (Option AdvReport) Refusal → List ℕ
 seen_words (Err why) = twelve (number why) 0 0 0 0 0 0 0 0 0 0 0

@@ -3,14 +3,13 @@
 
 ghost use Rattle.std.specs.Prelude.{◌≡◌, Ok, Some};
 ghost use Rattle.c_told.specs.Told.{answer_words, refusal_words, advertised_words};
-ghost use Rattle.c_told.specs.Read.{status_number, status_code, timer_words, handle_words, given_words, passed_words, seen_words, spot_words, sighting_words};
+ghost use Rattle.c_told.specs.Read.{told_words, status_number, status_code, timer_words, handle_words, given_words, passed_words, report_refusal_words, seen_words, spot_words, sighting_words};
 
 use adv_presence::Presence;
 use radio_match::AdvAction;
 use radio_sights::{AdvReport, Span};
 use state::{LinkRequest, Sent, StepStatus};
 use state_readers::{Given, Passed};
-use state_refusals::Refusal;
 use time::Micros;
 
 // What a call asks of the link: nothing, an update of its parameters, its end.
@@ -93,22 +92,22 @@ pub fn advertised_words(refusal: u8, action: AdvAction) -> [u64; 8]
 // ---- calls that only read: refusal, whether there is what was asked for, its numbers
 
 // When the running step ends by itself.
-pub fn timer_words(x: Result<Option<Micros>, Refusal>) -> [u64; 8]
-    ensures { result ≡ timer_words x }
+pub fn timer_words(x: Result<Option<Micros>, u8>) -> [u64; 8]
+    ensures { result ≡ told_words refusal_words timer_words x }
 {
     match x {
-        Err(why) => refusal_words(why.number()),
+        Err(why) => refusal_words(why),
         Ok(None) => [0; 8],
         Ok(Some(at)) => [0, THERE, at.0, 0, 0, 0, 0, 0],
     }
 }
 
 // The handle of the link.
-pub fn handle_words(x: Result<Option<u16>, Refusal>) -> [u64; 8]
-    ensures { result ≡ handle_words x }
+pub fn handle_words(x: Result<Option<u16>, u8>) -> [u64; 8]
+    ensures { result ≡ told_words refusal_words handle_words x }
 {
     match x {
-        Err(why) => refusal_words(why.number()),
+        Err(why) => refusal_words(why),
         Ok(None) => [0; 8],
         Ok(Some(handle)) => [0, THERE, handle as u64, 0, 0, 0, 0, 0],
     }
@@ -142,11 +141,11 @@ fn status_code(s: StepStatus) -> u64
 }
 
 // A result: time, status, ATT error code, place and length of its value.
-pub fn given_words(x: Result<Option<Given>, Refusal>) -> [u64; 8]
-    ensures { result ≡ given_words x }
+pub fn given_words(x: Result<Option<Given>, u8>) -> [u64; 8]
+    ensures { result ≡ told_words refusal_words given_words x }
 {
     match x {
-        Err(why) => refusal_words(why.number()),
+        Err(why) => refusal_words(why),
         Ok(None) => [0; 8],
         Ok(Some(g)) => {
             let number = status_number(g.status);
@@ -167,11 +166,11 @@ pub fn given_words(x: Result<Option<Given>, Refusal>) -> [u64; 8]
 }
 
 // A notification: time, link, handle, whether it is an indication, place and length of its value.
-pub fn passed_words(x: Result<Option<Passed>, Refusal>) -> [u64; 8]
-    ensures { result ≡ passed_words x }
+pub fn passed_words(x: Result<Option<Passed>, u8>) -> [u64; 8]
+    ensures { result ≡ told_words refusal_words passed_words x }
 {
     match x {
-        Err(why) => refusal_words(why.number()),
+        Err(why) => refusal_words(why),
         Ok(None) => [0; 8],
         Ok(Some(p)) => {
             let on = p.handle as u64;
@@ -194,11 +193,11 @@ pub fn passed_words(x: Result<Option<Passed>, Refusal>) -> [u64; 8]
 // ---- views
 
 // A report: time, channel, PDU type, address, place and length of its data, whether it has a scan response, its place and length.
-pub fn seen_words(x: Result<Option<AdvReport>, Refusal>) -> [u64; 12]
-    ensures { result ≡ seen_words x }
+pub fn seen_words(x: Result<Option<AdvReport>, u8>) -> [u64; 12]
+    ensures { result ≡ told_words report_refusal_words seen_words x }
 {
     match x {
-        Err(why) => [why.number() as u64, 0, 0, 0, 0, 0, 0, 0, 0, 0, 0, 0],
+        Err(why) => [why as u64, 0, 0, 0, 0, 0, 0, 0, 0, 0, 0, 0],
         Ok(None) => [0; 12],
         Ok(Some(report)) => report_words(report),
     }
@@ -228,22 +227,22 @@ fn report_words(r: AdvReport) -> [u64; 12]
 }
 
 // Bytes in the store: their place and length.
-pub fn spot_words(x: Result<Option<Span>, Refusal>) -> [u64; 8]
-    ensures { result ≡ spot_words x }
+pub fn spot_words(x: Result<Option<Span>, u8>) -> [u64; 8]
+    ensures { result ≡ told_words refusal_words spot_words x }
 {
     match x {
-        Err(why) => refusal_words(why.number()),
+        Err(why) => refusal_words(why),
         Ok(None) => [0; 8],
         Ok(Some(s)) => [0, THERE, s.at as u64, s.len as u64, 0, 0, 0, 0],
     }
 }
 
 // What a report tells of a service: 0 absent, 1 listed, 2 unknown.
-pub fn sighting_words(x: Result<Option<Presence>, Refusal>) -> [u64; 8]
-    ensures { result ≡ sighting_words x }
+pub fn sighting_words(x: Result<Option<Presence>, u8>) -> [u64; 8]
+    ensures { result ≡ told_words refusal_words sighting_words x }
 {
     match x {
-        Err(why) => refusal_words(why.number()),
+        Err(why) => refusal_words(why),
         Ok(None) => [0; 8],
         Ok(Some(presence)) => {
             let number = u32::from(presence);
