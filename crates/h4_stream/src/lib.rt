@@ -71,24 +71,14 @@ impl<'a> Hand<'a> {
         self.held.len() + self.fed.len()
     }
 
-    fn byte(self, i: usize) -> u8
-        requires { i < length (bytes_of self) }
-        ensures { result ≡ get_or (bytes_of self.entry) i 0 }
-    {
-        if i < self.held.len() {
-            self.held[i]
-        } else {
-            self.fed[i - self.held.len()]
-        }
-    }
-
     // What stands at the front of the bytes from index at on: a whole packet's length, or None where more is needed.
     fn front_at(self, at: usize) -> Result<Option<usize>, Lost>
         requires { at ≤ length (bytes_of self) }
         ensures { result ≡ front (drop at (bytes_of self.entry)) }
     {
         let left = self.len() - at;
-        let size = h4_packets::packet_len(left, |i| self.byte(at + i))?;
+        let past = at.min(self.held.len());
+        let size = h4_packets::packet_len(&self.held[past..], &self.fed[at - past..])?;
         match size {
             Some(n) if h4_packets::LONGEST < n => Err(Lost::ByLength),
             Some(n) if n <= left => Ok(Some(n)),
