@@ -178,6 +178,7 @@ impl Reach {
 }
 
 // The packets go out; what is left is held, unless framing is lost.
+#[tactic(auto, using(crate::proofs::FeedLaws::rest_by_loss, crate::proofs::FeedLaws::packets_first))]
 fn take_in(count: usize, held: &mut [u8], fed: &[u8], out: &mut [u8]) -> Fed
     requires { (count ≤ longest) × ((length held.old ≡ longest) × (count + length fed.now ≤ length out.old)) }
     ensures { outcome result held.new out.new
@@ -211,6 +212,7 @@ fn refuse(stream: Stream, why: Refusal) -> Fed
 }
 
 // hci.rs, feed; 02: packets found before a bad place come first, then the refusal.
+#[tactic(auto, unfolding(crate::specs::Feed::feeding, crate::specs::Cut::joined))]
 pub fn feed(stream: Stream, held: &mut [u8; 1024], fed: &[u8], out: &mut [u8]) -> Fed
     ensures { outcome result held.new out.new ≡ feeding stream held.old fed.now out.old }
 {
