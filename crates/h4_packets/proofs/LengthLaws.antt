@@ -38,7 +38,7 @@ by-indicator P p₁ p₂ p₃ p₄ p₅ other i =
     (λ n₄. equal-or P iso i p₅
     (λ n₅. other i n₁ n₂ n₃ n₄ n₅)))))
 
-header-none : (i : ℕ) → (i ≡ command → ⊥) → (i ≡ acl → ⊥) → (i ≡ sco → ⊥) → (i ≡ event → ⊥) → (i ≡ iso → ⊥) → 0 ≡ header_size i
+pub header-none : (i : ℕ) → (i ≡ command → ⊥) → (i ≡ acl → ⊥) → (i ≡ sco → ⊥) → (i ≡ event → ⊥) → (i ≡ iso → ⊥) → 0 ≡ header_size i
 unfolding header_size
 header-none i n₁ n₂ n₃ n₄ n₅ = rw (ne_eqb i 1 n₁, ne_eqb i 2 n₂, ne_eqb i 3 n₃, ne_eqb i 4 n₄, ne_eqb i 5 n₅)
 

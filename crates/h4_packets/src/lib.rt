@@ -1,7 +1,7 @@
 // What stands at the front of an H4 byte stream: packet indicators (Core Vol 4 Part A 2), headers and lengths (Part E 5.4).
 #![tactic(auto)]
 
-ghost use Rattle.std.specs.Prelude.{◌≡◌, ℕ, ◌+◌, ◌≤◌, ◌<◌, List, length, get_or};
+ghost use Rattle.std.specs.Prelude.{◌≡◌, ◌++◌, ◌≤◌, ◌<◌, length, get_or};
 ghost use Rattle.h4_packets.specs.Packet.{header_size, payload_size, packet_length};
 ghost use Rattle.h4_packets.specs.Names.{code, named, number, told_number, refusal_by};
 
@@ -153,24 +153,33 @@ pub fn payload_size(indicator: u8, before: u8, last: u8) -> usize
     }
 }
 
-// The length of the packet at the front of `there` bytes: `byte(i)` is the one at index i. None where too few are there to tell.
-pub fn packet_len<F: Fn(usize) -> u8>(
-    there: usize,
-    byte: F,
-) -> Result<Option<usize>, UndefinedIndicator>
-    requires { (i : ℕ) → i < there → F.pre byte i }
-    ensures { (s : List ℕ) → length s ≡ there → ((i b : ℕ) → i < there → F.post byte i b → b ≡ get_or s i 0) → result ≡ packet_length s }
+// The byte at index i of `first` and, behind it, `rest`.
+fn byte_at(first: &[u8], rest: &[u8], i: usize) -> u8
+    requires { i < length (first.now ++ rest.now) }
+    ensures { result ≡ get_or (first.now ++ rest.now) i 0 }
 {
+    if i < first.len() {
+        first[i]
+    } else {
+        rest[i - first.len()]
+    }
+}
+
+// The length of the packet at the front of `first` and, behind it, `rest`. None where too few bytes are there to tell.
+pub fn packet_len(first: &[u8], rest: &[u8]) -> Result<Option<usize>, UndefinedIndicator>
+    ensures { result ≡ packet_length (first.now ++ rest.now) }
+{
+    let there = first.len() + rest.len();
     if there == 0 {
         return Ok(None);
     }
-    let indicator = Indicator::try_from(byte(0))?;
+    let indicator = Indicator::try_from(byte_at(first, rest, 0))?;
     let header = indicator.header_size();
     if there < header {
         return Ok(None);
     }
-    let before = byte(header - 2);
-    let last = byte(header - 1);
+    let before = byte_at(first, rest, header - 2);
+    let last = byte_at(first, rest, header - 1);
     Ok(Some(header + indicator.payload_size(before, last)))
 }
 
@@ -178,10 +187,5 @@ pub fn packet_len<F: Fn(usize) -> u8>(
 pub fn h4_packet_len(bytes: &[u8]) -> Result<Option<usize>, UndefinedIndicator>
     ensures { result ≡ packet_length bytes.now }
 {
-    packet_len(
-        bytes.len(),
-        |i|
-            requires { i < length bytes.now }
-        { bytes[i] },
-    )
+    packet_len(bytes, &[])
 }

@@ -64,6 +64,21 @@ module _ (s : List ℕ) (p len : ℕ) where
 
 -- ---- what is taken in
 
+-- what is held of the bytes behind the packets, by how framing is lost
+abbrev pub held_by : Option Lost → List ℕ → List ℕ
+held_by None s = s
+held_by (Some lost) s = []
+
+pub rest_by_loss : (s : List ℕ) → (cut s).rest ≡ held_by (cut s).lost (drop (length (joined (cut s).packets)) s)
+rest_by_loss s = by (cut s).lost (divides s).kept
+  where
+    by : (l : Option Lost) → Kept l s (length (joined (cut s).packets)) (cut s).rest → (cut s).rest ≡ held_by l (drop (length (joined (cut s).packets)) s)
+    by None k = k.0
+    by (Some lost) k = k
+
+pub packets_first : (s : List ℕ) (n : ℕ) → n ≡ length (joined (cut s).packets) → take n s ≡ joined (cut s).packets
+packets_first s n e = rw e (sym (divides s).front)
+
 -- the packets found are the first bytes in hand
 pub record Found (s : List ℕ) (r : Reach) : Type 0 where
   pub inside : r.len ≤ length s
@@ -113,15 +128,6 @@ module _ (s : List ℕ) (r : Reach) (e : r ≡ reached 0 0 (cut s)) where
     held_on whole total size held' eh x ex =
         rw (ex, size) (told (drop r.len s) (length s - r.len) held' (rest-is whole) (sym (length-drop r.len s)) eh)
 
-    -- framing is lost: nothing is held
-    pub dropped : (lost : Lost) → r.lost ≡ Some lost → (x : Fed) → x ≡ answered 0 r.lost r.packets r.len → outcome x held out' ≡ given (cut s) held out
-    dropped lost is x ex = rw ex (told [] 0 held (rw is at (found s r e).kept) refl refl)
-
--- a stream whose framing was lost before drops all
-still : (l : Option Lost) (lost : Lost) → l ≡ Some lost → (s held out : List ℕ) → outcome (answered 0 l 0 0) held out ≡ given (cut_from l s) held out
-unfolding joined
-still l lost is s held out = rw is
-
 -- ---- refusals
 
 module _ (stream : Stream) (held fed out : List ℕ) where
@@ -148,8 +154,3 @@ module _ (stream : Stream) (held fed out : List ℕ) where
     pub taken : x ≡ true → stream.lost ≡ None → (r : Fed) (held' out' : List ℕ)
         → outcome r held' out' ≡ given (cut (in_hand stream.count held fed)) held out → outcome r held' out' ≡ feeding stream held fed out
     taken h whole r held' out' e = e ∙ sym (accepted h ∙ rw whole)
-
-    -- a stream that has lost its framing
-    pub lost-still : x ≡ true → (lost : Lost) → stream.lost ≡ Some lost → (r : Fed) → r ≡ answered 0 stream.lost 0 0
-        → outcome r held out ≡ feeding stream held fed out
-    lost-still h lost is r e = rw e (still stream.lost lost is (in_hand stream.count held fed) held out ∙ sym (accepted h))

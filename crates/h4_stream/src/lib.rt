@@ -71,24 +71,14 @@ impl<'a> Hand<'a> {
         self.held.len() + self.fed.len()
     }
 
-    fn byte(self, i: usize) -> u8
-        requires { i < length (bytes_of self) }
-        ensures { result ≡ get_or (bytes_of self.entry) i 0 }
-    {
-        if i < self.held.len() {
-            self.held[i]
-        } else {
-            self.fed[i - self.held.len()]
-        }
-    }
-
     // What stands at the front of the bytes from index at on: a whole packet's length, or None where more is needed.
     fn front_at(self, at: usize) -> Result<Option<usize>, Lost>
         requires { at ≤ length (bytes_of self) }
         ensures { result ≡ front (drop at (bytes_of self.entry)) }
     {
         let left = self.len() - at;
-        let size = h4_packets::packet_len(left, |i| self.byte(at + i))?;
+        let past = at.min(self.held.len());
+        let size = h4_packets::packet_len(&self.held[past..], &self.fed[at - past..])?;
         match size {
             Some(n) if h4_packets::LONGEST < n => Err(Lost::ByLength),
             Some(n) if n <= left => Ok(Some(n)),
@@ -188,6 +178,7 @@ impl Reach {
 }
 
 // The packets go out; what is left is held, unless framing is lost.
+#[tactic(auto, using(crate::proofs::FeedLaws::rest_by_loss, crate::proofs::FeedLaws::packets_first))]
 fn take_in(count: usize, held: &mut [u8], fed: &[u8], out: &mut [u8]) -> Fed
     requires { (count ≤ longest) × ((length held.old ≡ longest) × (count + length fed.now ≤ length out.old)) }
     ensures { outcome result held.new out.new
@@ -221,6 +212,7 @@ fn refuse(stream: Stream, why: Refusal) -> Fed
 }
 
 // hci.rs, feed; 02: packets found before a bad place come first, then the refusal.
+#[tactic(auto, unfolding(crate::specs::Feed::feeding, crate::specs::Cut::joined))]
 pub fn feed(stream: Stream, held: &mut [u8; 1024], fed: &[u8], out: &mut [u8]) -> Fed
     ensures { outcome result held.new out.new ≡ feeding stream held.old fed.now out.old }
 {

@@ -1,4 +1,4 @@
-use Rattle.h4_stream.proofs.FeedLaws.{refused_over, refused-short, taken, lost-still}
+use Rattle.h4_stream.proofs.FeedLaws.{refused_over, refused-short, taken}
 use Rattle.h4_stream.proofs.feed.Goals as goal
 
 pub returns-then-count-gt-LONGEST : goal.returns-then-count-gt-LONGEST
@@ -21,11 +21,3 @@ returns-in-None c =
     c.if-count-gt-LONGEST.false i.result i.ensures
     c.if-not-is_inside.false c.in-None.is _ _ _
     c.take_in.ensures
-
-pub returns-in-Some : goal.returns-in-Some
-returns-in-Some c =
-    let a = c.args in
-    let i = c.is_inside in
-    lost-still a.stream a.held.now a.fed.now a.out.now
-    c.if-count-gt-LONGEST.false i.result i.ensures
-    c.if-not-is_inside.false _ c.in-Some.is _ c.answer.ensures

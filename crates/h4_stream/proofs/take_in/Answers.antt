@@ -2,7 +2,7 @@ use Prim.Native.Nat.{◌≤◌}
 use native.Mathlib.Omega.{arith}
 use lib.ListN.{length}
 use Rattle.h4_stream.proofs.HandLaws.{length-hand}
-use Rattle.h4_stream.proofs.FeedLaws.{found_inside, rest-fits, held_on, dropped}
+use Rattle.h4_stream.proofs.FeedLaws.{found_inside, rest-fits, held_on}
 use Rattle.h4_stream.proofs.take_in.Goals as goal
 
 pub put-requires-clause-inside : goal.put-requires-clause-inside
@@ -27,6 +27,3 @@ pub returns-in-None : goal.returns-in-None
 returns-in-None c =
     held_on _ _ c.find_packets-found.ensures _ _ _ c.put.ensures
     c.in-None.is _ c.len-total.ensures _ c.keep_rest.ensures _ c.answer.ensures
-
-pub returns-in-Some : goal.returns-in-Some
-returns-in-Some c = dropped _ _ c.find_packets-found.ensures _ _ _ c.put.ensures _ c.in-Some.is _ c.answer-in-Some.ensures
