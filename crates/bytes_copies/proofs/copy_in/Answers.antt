@@ -1,16 +1,12 @@
 use Rattle.std.proofs.Common.{sym}
 use Rattle.bytes_base.proofs.SpliceLaws.{splice-off, splice-void}
 use Rattle.bytes_base.proofs.TestLaws.{fits-yes, fits-no}
-use Rattle.bytes_copies.proofs.Parts.{written}
 use Rattle.bytes_copies.proofs.copy_in.Goals as goal
 use Rattle.bytes_copies.proofs.copy_in.Goals.{else-is_inside-via-then-is_inside+else-is_inside-2, else-is_inside-via-else-is_inside}
 
 pub returns-then-is_inside-2 : goal.returns-then-is_inside-2
 returns-then-is_inside-2 c =
-    let a = c.args in
-    let h = fits-yes _ _ _ _ c.is_inside.ensures c.if-is_inside.true in
-    let k = fits-yes _ _ _ _ c.is_inside-then-is_inside.ensures c.if-is_inside-2.true in
-    written a.dst.now a.at a.src.now a.from a.n c.copy_from_slice.new.self h k c.copy_from_slice.ensures.after
+    c.copy_known.ensures
 
 pub returns-else-is_inside : goal.returns-else-is_inside
 returns-else-is_inside c =
