@@ -5,10 +5,12 @@ use mathlib.Core.List.{List, [], ◌∷◌, ◌++◌, append_assoc, append-nil}
 use native.Mathlib.Omega.{arith}
 use lib.ListN.{length, take, drop, get_or, length-append}
 use lib.Seq.{take_at, drop_at, drop-drop, length-take-le}
-use Rattle.std.proofs.lemmas.List.{take_more, take-append-drop}
+use Rattle.std.proofs.lemmas.List.{take_all, take_more, take-append-drop}
 use native.Mathlib.Nat.{add-zero}
 use Rattle.std.specs.Int.{w16, to_le_bytes}
 use Rattle.bytes_base.specs.Bytes.{le_bytes}
+use Rattle.bytes_base.specs.Splice.{splice}
+use Rattle.bytes_base.proofs.SpliceLaws.{splice-in}
 use Rattle.h4_builders.specs.Events.{number_bytes, pair_bytes}
 use Rattle.h4_builders.specs.Build.{written_at}
 
@@ -17,6 +19,10 @@ pub stored : (o : List ℕ) (at end : ℕ) (v : List ℕ) → end ≡ at + lengt
 stored o at end v e =
     let n : end - at ≡ length v = omega arith in
     rw (n, drop-drop (length v) at o)
+
+-- bytes copied to the place at
+pub spliced : (o : List ℕ) (at : ℕ) (v : List ℕ) → at + length v ≤ length o → splice o at v 0 (length v) ≡ written_at o at v
+spliced o at v h = rw (splice-in o at v 0 (length v) h (omega arith), append_assoc (take at o) (take (length v) v) (drop (at + length v) o), take_all (length v) v (omega arith)) refl
 
 -- one piece behind another
 pub onward : (o : List ℕ) (at : ℕ) (v w : List ℕ) → at ≤ length o → (o₁ : List ℕ) → o₁ ≡ written_at o at v

@@ -51,9 +51,8 @@ fn put(out: &mut [u8], at: usize, bytes: &[u8]) -> usize
     ensures out_after { out.new ≡ written_at out.old at bytes.now }
     ensures end { result ≡ at + length bytes.now }
 {
-    let end = at + bytes.len();
-    out[at..end].copy_from_slice(bytes);
-    end
+    bytes_copies::copy_in(out, at, bytes, 0, bytes.len());
+    at + bytes.len()
 }
 
 // Each number in two bytes, from at on.

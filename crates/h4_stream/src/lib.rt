@@ -126,8 +126,8 @@ impl<'a> Hand<'a> {
     {
         if 0 < len {
             let held = len.min(self.held.len());
-            out[..held].copy_from_slice(&self.held[..held]);
-            out[held..len].copy_from_slice(&self.fed[..len - held]);
+            bytes_copies::copy_in(out, 0, self.held, 0, held);
+            bytes_copies::copy_in(out, held, self.fed, 0, len - held);
         }
     }
 }
@@ -139,8 +139,11 @@ fn lower(held: &mut [u8], from: usize, n: usize)
     requires { from + n ≤ length held.old }
     ensures { held.new ≡ take n (drop from held.old) ++ drop n held.old }
 {
+    // Kept: a loop over bytes, as bytes_copies has one: the archive for C needs no name from outside.
     if 0 < from {
-        held.copy_within(from..from + n, 0);
+        for i in 0..n {
+            held[i] = held[from + i];
+        }
     }
 }
 
@@ -154,8 +157,8 @@ fn keep_rest(held: &mut [u8], count: usize, fed: &[u8], len: usize)
     let gone = len.min(count);
     let kept = count - gone;
     lower(held, gone, kept);
-    let rest = &fed[len - gone..];
-    held[kept..kept + rest.len()].copy_from_slice(rest);
+    let past = len - gone;
+    bytes_copies::copy_in(held, kept, fed, past, fed.len() - past);
 }
 
 // ---- the feed
