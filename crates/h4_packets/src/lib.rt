@@ -1,7 +1,7 @@
 // What stands at the front of an H4 byte stream: packet indicators (Core Vol 4 Part A 2), headers and lengths (Part E 5.4).
 #![tactic(auto)]
 
-ghost use Rattle.std.specs.Prelude.{◌≡◌, ◌++◌, ◌≤◌, ◌<◌, length, get_or};
+ghost use Rattle.std.specs.Prelude.{◌≡◌, ◌++◌, ◌≤◌, ◌<◌, length, get_or, drop};
 ghost use Rattle.h4_packets.specs.Packet.{header_size, payload_size, packet_length};
 ghost use Rattle.h4_packets.specs.Names.{code, named, number, told_number, refusal_by};
 
@@ -165,27 +165,27 @@ fn byte_at(first: &[u8], rest: &[u8], i: usize) -> u8
     }
 }
 
-// The length of the packet at the front of `first` and, behind it, `rest`. None where too few bytes are there to tell.
-pub fn packet_len(first: &[u8], rest: &[u8]) -> Result<Option<usize>, UndefinedIndicator>
-    ensures { result ≡ packet_length (first.now ++ rest.now) }
+// The length of the packet that begins at index `at` of `first` and, behind it, `rest`. None where too few bytes are there to tell.
+pub fn packet_len(first: &[u8], rest: &[u8], at: usize) -> Result<Option<usize>, UndefinedIndicator>
+    ensures { result ≡ packet_length (drop at (first.now ++ rest.now)) }
 {
-    let there = first.len() + rest.len();
+    let there = (first.len() + rest.len()).saturating_sub(at);
     if there == 0 {
         return Ok(None);
     }
-    let indicator = Indicator::try_from(byte_at(first, rest, 0))?;
+    let indicator = Indicator::try_from(byte_at(first, rest, at))?;
     let header = indicator.header_size();
     if there < header {
         return Ok(None);
     }
-    let before = byte_at(first, rest, header - 2);
-    let last = byte_at(first, rest, header - 1);
+    let before = byte_at(first, rest, at + (header - 2));
+    let last = byte_at(first, rest, at + (header - 1));
     Ok(Some(header + indicator.payload_size(before, last)))
 }
 
-// hci.rs, h4_packet_len.
+// hci.rs, h4_packet_len. Behind an empty part, bytes are read without a test of the index.
 pub fn h4_packet_len(bytes: &[u8]) -> Result<Option<usize>, UndefinedIndicator>
     ensures { result ≡ packet_length bytes.now }
 {
-    packet_len(bytes, &[])
+    packet_len(&[], bytes, 0)
 }

@@ -2,8 +2,7 @@
 use Rattle.std.proofs.Common.{◌≡◌, refl, sym, ap, ◌∙◌, ℕ, ◌+◌, ◌-◌, ◌≤◌, ◌<◌, List, ◌++◌, length, take, drop, append_assoc, arith, length-append, length-drop}
 use lib.ListN.{get_or, set}
 use Rattle.std.proofs.lemmas.List.{take_all, drop_all, take-append-le, drop-append-le, length-take-le, drop-drop}
-use Rattle.std.specs.List.{between}
-use Rattle.std.proofs.lemmas.Slice.{between_is, between_to_end}
+use Rattle.std.proofs.lemmas.Slice.{between_is}
 use Rattle.std.proofs.Math.Seq.{take-append-add, drop-append-add, take_at, drop_at}
 use mathlib.Core.List.{append-nil}
 use Prim.Native.Nat.{min}
@@ -50,10 +49,6 @@ module _ (held fed : List ℕ) (len m : ℕ) (e : m ≡ min len (length held)) w
       let k : length held + (len - length held) ≡ len = omega arith in
       rw (a, drop_all (length held) held (omega arith))
       (sym (drop-append-add held fed (len - length held)) ∙ ap (λ (n : ℕ). drop n (held ++ fed)) k))
-
-  -- and as the code lends them
-  pub past-parts : between m (length held) held ++ between (len - m) (length fed) fed ≡ drop len (held ++ fed)
-  past-parts = rw (between_to_end held m (length held) (omega arith), between_to_end fed (len - m) (length fed) (omega arith)) rest-parts
 
 pub length-hand : (held : List ℕ) (count : ℕ) (fed : List ℕ) → count ≤ length held → length (in_hand count held fed) ≡ count + length fed
 length-hand held count fed big = simp (length-append, length-take-le count held big)

@@ -77,8 +77,7 @@ impl<'a> Hand<'a> {
         ensures { result ≡ front (drop at (bytes_of self.entry)) }
     {
         let left = self.len() - at;
-        let past = at.min(self.held.len());
-        let size = h4_packets::packet_len(&self.held[past..], &self.fed[at - past..])?;
+        let size = h4_packets::packet_len(self.held, self.fed, at)?;
         match size {
             Some(n) if h4_packets::LONGEST < n => Err(Lost::ByLength),
             Some(n) if n <= left => Ok(Some(n)),
