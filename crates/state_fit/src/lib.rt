@@ -39,13 +39,12 @@ pub fn tables_fit(tables: &[u64; 1152], n: Counts, links: u64) -> bool
         & words_notification::links_fit(tables, n.notifications, links)
 }
 
-// Taken into each gate, so that no core is copied to be tested.
-#[inline(always)]
-fn is_fit(c: Core, tables: &[u64; 1152]) -> bool
-    ensures { result ≡ fits (central c tables.now) }
+// Whether the state is fit. The core is lent, as the tables are.
+fn is_fit(c: &Core, tables: &[u64; 1152]) -> bool
+    ensures { result ≡ fits (central c.now tables.now) }
 {
     let links = c.counters.links;
-    core_fits(c) && tables_fit(tables, c.counts, links)
+    core_fits(*c) && tables_fit(tables, c.counts, links)
 }
 
 // ---- the gates: refusals 1 to 3, the first that applies
@@ -62,7 +61,7 @@ pub fn gate(
 {
     let sized = state_refusals::sizes_fit(store_len, out_len);
     let late = time::too_late(at);
-    state_refusals::first_refusal(is_fit(c, tables), sized, !late)
+    state_refusals::first_refusal(is_fit(&c, tables), sized, !late)
 }
 
 // Of a call that sends nothing.
@@ -76,7 +75,7 @@ pub fn gate_quiet(
 {
     let sized = store_len == state_places::STORE_SIZE;
     let timely = !time::too_late(at);
-    state_refusals::first_refusal(is_fit(c, tables), sized, timely)
+    state_refusals::first_refusal(is_fit(&c, tables), sized, timely)
 }
 
 // Of a call that only reads.
@@ -84,5 +83,5 @@ pub fn gate_reader(c: Core, tables: &[u64; 1152], store_len: usize) -> Result<()
     ensures { gate_number result ≡ gate_reader (central c tables.now) store_len }
 {
     let sized = store_len == state_places::STORE_SIZE;
-    state_refusals::first_refusal(is_fit(c, tables), sized, true)
+    state_refusals::first_refusal(is_fit(&c, tables), sized, true)
 }
