@@ -63,7 +63,10 @@ fn put_numbers(out: &mut [u8], at: usize, numbers: &[u16]) -> usize
 {
     let mut end = at;
     for v in numbers {
-        end = put(out, end, &v.to_le_bytes());
+        let bytes = v.to_le_bytes();
+        let next = end + bytes.len();
+        out[end..next].copy_from_slice(&bytes);
+        end = next;
     }
     end
 }
