@@ -15,6 +15,7 @@ use Rattle.std.specs.Prelude.{Option, None, Some, Ok, Err}
 use Rattle.h4_packets.specs.Numbers.{longest}
 use Rattle.h4_packets.specs.Front.{front}
 use Rattle.h4_packets.specs.declared.Lost.{Lost}
+use Rattle.h4_packets.specs.declared.Lost.TheVariants.{ByIndicator, ByLength}
 use Rattle.h4_packets.specs.declared.Refusal.TheVariants.{Overheld, ShortOutput}
 use Rattle.h4_packets.proofs.FrontLaws.{stable}
 use Rattle.h4_stream.specs.declared.Stream.{Stream}
@@ -128,6 +129,16 @@ module _ (s : List ℕ) (r : Reach) (e : r ≡ reached 0 0 (cut s)) where
     held_on whole total size held' eh x ex =
         rw (ex, size) (told (drop r.len s) (length s - r.len) held' (rest-is whole) (sym (length-drop r.len s)) eh)
 
+    -- framing is lost: nothing is held
+    pub dropped : (lost : Lost) → r.lost ≡ Some lost → (x : Fed) → x ≡ answered 0 r.lost r.packets r.len → outcome x held out' ≡ given (cut s) held out
+    dropped lost is x ex = rw ex (told [] 0 held (rw is at (found s r e).kept) refl refl)
+
+-- a stream whose framing was lost before drops all
+still : (l : Option Lost) (lost : Lost) → l ≡ Some lost → (s held out : List ℕ) → outcome (answered 0 l 0 0) held out ≡ given (cut_from l s) held out
+unfolding joined
+still l ByIndicator is s held out = rw is
+still l ByLength is s held out = rw is
+
 -- ---- refusals
 
 module _ (stream : Stream) (held fed out : List ℕ) where
@@ -154,3 +165,8 @@ module _ (stream : Stream) (held fed out : List ℕ) where
     pub taken : x ≡ true → stream.lost ≡ None → (r : Fed) (held' out' : List ℕ)
         → outcome r held' out' ≡ given (cut (in_hand stream.count held fed)) held out → outcome r held' out' ≡ feeding stream held fed out
     taken h whole r held' out' e = e ∙ sym (accepted h ∙ rw whole)
+
+    -- a stream that has lost its framing
+    pub lost-still : x ≡ true → (lost : Lost) → stream.lost ≡ Some lost → (r : Fed) → r ≡ answered 0 stream.lost 0 0
+        → outcome r held out ≡ feeding stream held fed out
+    lost-still h lost is r e = rw e (still stream.lost lost is (in_hand stream.count held fed) held out ∙ sym (accepted h))
